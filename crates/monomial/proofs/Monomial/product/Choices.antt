@@ -1,0 +1,11 @@
+use mathlib.Core.Path.{_≡_}
+use Prim.Native.Nat.{ℕ, _+_, _<_, _≤_}
+use lib.ListN.{length, getD}
+use Rattle.monomial.specs.Monomial.{Wide}
+use Rattle.monomial.proofs.Monomial.product.Given as given
+
+abbrev pub Inv-loop-i : given.InvT-loop-i
+Inv-loop-i l =
+    Wide (l .exponents)
+    × ((h : ℕ) → h < l .i → getD (l .exponents) h 0 ≡ getD (l .self .exponents) h 0 + getD (l .other .exponents) h 0)
+    × ((h : ℕ) → h < l .i → getD (l .self .exponents) h 0 + getD (l .other .exponents) h 0 ≤ 255)

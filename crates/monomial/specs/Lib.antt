@@ -1,0 +1,4 @@
+pub mod Monomial
+pub mod Order
+pub mod Division
+pub mod Lists
