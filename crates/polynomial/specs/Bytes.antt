@@ -1,8 +1,7 @@
 -- Terms, polynomials and tables as command bytes.
-use mathlib.Core.Path.{_≡_}
-use mathlib.Core.List.{List, [], _∷_, _++_, List·Memᴰ}
-use Prim.Native.Nat.{ℕ, _/_, _%_, _<_, _^_}
-use Rattle.monomial.specs.Monomial.{Wide}
+use mathlib.Core.List.{List, [], _∷_, _++_}
+use Prim.Native.Nat.{ℕ, _*_, _/_, _%_}
+use lib.ListN.{length}
 use Rattle.polynomial.specs.declared.term.Term.{Term}
 use Rattle.polynomial.specs.Polynomial.{Poly, exponents}
 
@@ -13,6 +12,10 @@ term-bytes t = 1 ∷ (t .coefficient / 256) ∷ (t .coefficient % 256) ∷ expon
 abbrev pub poly-bytes : Poly → List ℕ
 poly-bytes [] = []
 poly-bytes (t ∷ f) = term-bytes t ++ poly-bytes f
+
+-- nine bytes to a term
+abbrev pub bytes-needed : Poly → ℕ
+bytes-needed f = length f * 9
 
 -- each polynomial is closed by 02
 abbrev pub copy-bytes : List Poly → List ℕ

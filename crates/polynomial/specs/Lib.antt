@@ -1,3 +1,4 @@
 pub mod Polynomial
 pub mod Check
 pub mod Bytes
+pub mod Reading

@@ -4,6 +4,9 @@
 // refusal  why a polynomial that is handed over is refused
 // check    the checks on a polynomial that is handed over
 // bytes    reading and writing terms as bytes
+pub mod bytes;
 pub mod check;
 pub mod refusal;
 pub mod term;
+#[cfg(test)]
+mod tests;
