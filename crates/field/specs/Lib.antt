@@ -1,3 +1,4 @@
 pub mod Field
 pub mod Four
 pub mod Primes
+pub mod Kinds

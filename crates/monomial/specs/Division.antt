@@ -1,9 +1,9 @@
 -- A division tells which variables are multiplicative for a member of a list of monomials. Its laws, and two divisions.
 use mathlib.Core.Path.{_≡_}
-use mathlib.Core.Bool.{Bool, true, false, _&&_, _||_, not}
+use mathlib.Core.Bool.{Bool, true, false, cond, _&&_, _||_, not}
 use mathlib.Core.List.{List, [], _∷_}
 use Prim.Native.Nat.{ℕ, _-_, _≤_, _<_}
-use lib.Dec.{leb}
+use lib.Dec.{eqb, leb}
 use lib.ListN.{length, getD, take}
 use Rattle.std.specs.declared.option.Option.{Option}
 use Rattle.std.specs.declared.option.Option.the-variants.{Some, None}
@@ -70,3 +70,7 @@ janet U k v = asked U k v (largest (agrees (v - 1) (member U k)) U v (member U k
 -- Thomas: the largest among all members
 abbrev pub thomas : Split
 thomas U k v = asked U k v (largest (λ w. true) U v (member U k))
+
+-- the division that a code names
+abbrev pub division-of : ℕ → Option Split
+division-of code = cond (eqb code 1) (Some janet) (cond (eqb code 2) (Some thomas) None)

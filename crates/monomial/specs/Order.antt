@@ -5,7 +5,9 @@ use mathlib.Core.Logic.{_↔_}
 use mathlib.Core.List.{List, [], _∷_, reverse}
 use mathlib.Core.WellFounded.{WellFounded}
 use Prim.Native.Nat.{ℕ}
-use lib.Dec.{ltb}
+use lib.Dec.{eqb, ltb}
+use Rattle.std.specs.declared.option.Option.{Option}
+use Rattle.std.specs.declared.option.Option.the-variants.{Some, None}
 use Rattle.std.specs.declared.cmp.Ordering.{Ordering}
 use Rattle.std.specs.declared.cmp.Ordering.the-variants.{Less, Equal, Greater}
 use Rattle.std.specs.Orderings.{reversed, thenBy}
@@ -47,3 +49,10 @@ degree-lexicographic u m = thenBy (numbers (degree u) (degree m)) (lexicographic
 -- the larger degree is greater; at equal degrees the last exponent that differs decides, and the smaller is greater
 abbrev pub degree-reverse : Compare
 degree-reverse u m = thenBy (numbers (degree u) (degree m)) (reversed (lexicographic (reverse u) (reverse m)))
+
+-- the order that a code names
+abbrev pub order-of : ℕ → Option Compare
+order-of code =
+    cond (eqb code 1) (Some lexicographic)
+    (cond (eqb code 2) (Some degree-lexicographic)
+    (cond (eqb code 3) (Some degree-reverse) None))

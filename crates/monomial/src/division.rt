@@ -3,7 +3,7 @@ ghost use mathlib.Core.Path.{_≡_};
 ghost use Prim.Native.Nat.{ℕ, _-_, _≤_};
 ghost use lib.ListN.{length, getD};
 ghost use Rattle.std.specs.Options.{Cases};
-ghost use Rattle.monomial.specs.Monomial.{width};
+ghost use Rattle.monomial.specs.Monomial.{Wide, width};
 ghost use Rattle.monomial.specs.Division.{Split, DivisionLaws, Within, agrees, largest};
 ghost use Rattle.monomial.specs.Lists.{exponents-of};
 use crate::Monomial;
@@ -43,7 +43,8 @@ pub(crate) fn find_member(list: &[Monomial], member: usize, variable: usize) -> 
 // Whether two monomials have the same exponents in the first variables.
 pub(crate) fn agree(a: &Monomial, b: &Monomial, count: usize) -> bool
     requires { ⌜ count ≤ width ⌝ }
-    ensures { λ r. ⌜ r ≡ agrees count (now (b .entry) .exponents) (now (a .entry) .exponents) ⌝ }
+    ensures answer { λ r. ⌜ r ≡ agrees count (now (b .entry) .exponents) (now (a .entry) .exponents) ⌝ }
+    ensures wide { λ _. ⌜ Wide (now (a .entry) .exponents) × Wide (now (b .entry) .exponents) ⌝ }
 {
     for i in 0..count {
         if a.exponents[i] != b.exponents[i] {

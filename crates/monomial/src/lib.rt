@@ -10,7 +10,7 @@ ghost use mathlib.Core.Path.{_≡_};
 ghost use Prim.Native.Nat.{ℕ, _+_, _<_, _≤_};
 ghost use Rattle.std.specs.Options.{Cases};
 ghost use Rattle.std.specs.Orderings.{Decides};
-ghost use Rattle.monomial.specs.Monomial.{Bounded, Divides, degree as degree-of, times, quotient as divided};
+ghost use Rattle.monomial.specs.Monomial.{Bounded, Divides, degree as degree-of, same, times, quotient as divided};
 
 pub mod degree_lexicographic;
 pub mod degree_reverse;
@@ -19,6 +19,8 @@ pub mod janet;
 pub mod lexicographic;
 pub mod order;
 pub mod thomas;
+
+use division::agree;
 
 // How many exponents a monomial has.
 pub const WIDTH: usize = 6;
@@ -39,6 +41,13 @@ impl Monomial {
             exponents[i] = self.exponents[i].checked_add(other.exponents[i])?;
         }
         Some(Monomial { exponents })
+    }
+
+    // Whether the two have the same exponents.
+    pub fn is_same(&self, other: &Monomial) -> bool
+        ensures { λ r. ⌜ r ≡ same (now (self .entry) .exponents) (now (other .entry) .exponents) ⌝ }
+    {
+        agree(self, other, WIDTH)
     }
 
     // Whether this monomial divides the other.

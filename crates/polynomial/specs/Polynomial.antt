@@ -4,7 +4,7 @@ use mathlib.Core.List.{List, [], _∷_, List·Memᴰ}
 use Prim.Native.Nat.{ℕ, _<_}
 use Rattle.polynomial.specs.declared.term.Term.{Term}
 use Rattle.field.specs.Field.{FieldMeaning}
-use Rattle.monomial.specs.Monomial.{In}
+use Rattle.monomial.specs.Monomial.{In, one}
 use Rattle.monomial.specs.Order.{Compare, Under}
 
 abbrev pub Poly : Type 0
@@ -31,3 +31,12 @@ pub record Written (F : FieldMeaning) (O : Compare) (n : ℕ) (f : Poly) : Type 
   pub over : Over F n f
   pub nonzero : (t : Term) → List·Memᴰ t f → 0 < t .coefficient
   pub falling : Falling O f
+
+-- the monomial of the first term, and 1 where there is no term
+abbrev pub leading : Poly → List ℕ
+leading [] = one
+leading (t ∷ f) = exponents t
+
+abbrev pub leading-coefficient : Poly → ℕ
+leading-coefficient [] = 0
+leading-coefficient (t ∷ f) = t .coefficient

@@ -9,8 +9,10 @@ use Rattle.monomial.proofs.Agreeing.{same-differs, same-more}
 use Rattle.monomial.proofs.division.agree.Needs as need
 
 pub returns-then-a-i : need.returns-then-a-i
-returns-then-a-i c =
-    sym (c .loop-i .inv ∙ same-differs (c .args .a .now .exponents) (c .args .b .now .exponents) (c .args .count) (c .loop-i .i) (c .loop-i-test .taken) (search needs) (search needs) (c .if-a-i .taken))
+returns-then-a-i c = record {
+  answer = sym (c .loop-i .inv ∙ same-differs (c .args .a .now .exponents) (c .args .b .now .exponents) (c .args .count) (c .loop-i .i) (c .loop-i-test .taken) (search needs) (search needs) (c .if-a-i .taken));
+  wide = (search needs, search needs);
+}
 
 pub loop-i-again : need.loop-i-again
 loop-i-again c =
@@ -22,4 +24,7 @@ returns c =
     let b = take (c .args .count) (c .args .b .now .exponents) in
     let ha : length a ≤ c .loop-i .i = omega (arith, length-take (c .args .count) (c .args .a .now .exponents)) in
     let hb : length b ≤ c .loop-i .i = omega (arith, length-take (c .args .count) (c .args .b .now .exponents)) in
-    sym (c .loop-i .inv ∙ ap₂ same (drop-all (c .loop-i .i) a ha) (drop-all (c .loop-i .i) b hb))
+    record {
+      answer = sym (c .loop-i .inv ∙ ap₂ same (drop-all (c .loop-i .i) a ha) (drop-all (c .loop-i .i) b hb));
+      wide = (search needs, search needs);
+    }

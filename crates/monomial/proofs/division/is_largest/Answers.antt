@@ -12,14 +12,14 @@ use Rattle.monomial.proofs.division.is_largest.Needs.{else-agree·by·then-agr
 pub returns-then-w-place : need.returns-then-w-place
 returns-then-w-place c =
     let u = c .args .u .now .exponents in
-    sym (c .loop-w .inv ∙ larger-here (agrees (c .args .before) u) (c .args .list .now) (c .args .variable) u (c .loop-w .w-index) none (c .loop-w-test .taken) (sym (c .if-agree .ensures tt)) (c .if-w-place .taken))
+    sym (c .loop-w .inv ∙ larger-here (agrees (c .args .before) u) (c .args .list .now) (c .args .variable) u (c .loop-w .w-index) none (c .loop-w-test .taken) (sym (c .if-agree .ensures tt .answer)) (c .if-w-place .taken))
 
 pub loop-w-again : need.loop-w-again
 loop-w-again c =
     let u = c .args .u .now .exponents in
     c .loop-w .inv ∙ elim (c .else-agree .came) [
       | else-agree·by·then-agree·else-w-place w ↦ smaller-here (agrees (c .args .before) u) (c .args .list .now) (c .args .variable) u (c .loop-w .w-index) none (c .loop-w-test .taken) (w .if-w-place .left)
-      | else-agree·by·else-agree w ↦ outside-here (agrees (c .args .before) u) (c .args .list .now) (c .args .variable) u (c .loop-w .w-index) none (c .loop-w-test .taken) (sym (w .if-agree .ensures tt))
+      | else-agree·by·else-agree w ↦ outside-here (agrees (c .args .before) u) (c .args .list .now) (c .args .variable) u (c .loop-w .w-index) none (c .loop-w-test .taken) (sym (w .if-agree .ensures tt .answer))
     ]
 
 pub returns : need.returns

@@ -1,0 +1,5 @@
+pub mod Text
+pub mod Stored
+pub mod Record
+pub mod Rows
+pub mod Show
