@@ -1,3 +1,4 @@
+pub mod Faults
 pub mod Text
 pub mod Stored
 pub mod Record

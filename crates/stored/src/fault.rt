@@ -1,4 +1,6 @@
 // What is wrong with a stored table.
+ghost use mathlib.Core.Path.{_≡_};
+ghost use Rattle.stored.specs.Faults.{reason-text, refusal-text};
 use polynomial::refusal::Refusal;
 use polynomial::refusal::RefusalDebug;
 use polynomial::refusal::RefusalPartialEq;
@@ -39,4 +41,38 @@ pub enum Fault {
     Bad(Reason, usize),
     // There is no memory to read or to show the table.
     Memory,
+}
+
+impl Reason {
+    // What is wrong, in words.
+    pub fn describe(&self) -> &'static str
+        ensures { λ r. ⌜ now r ≡ reason-text (now (self .entry)) ⌝ }
+    {
+        match self {
+            Reason::NoSheet => "no whole sheet command",
+            Reason::NoField => "no such field",
+            Reason::NoVariables => "not 1 to 6 variables",
+            Reason::NoOrder => "no such order",
+            Reason::NoDivision => "no such division",
+            Reason::CutTerm => "file ends inside a term",
+            Reason::OpenRecord => "file ends inside a record",
+            Reason::OtherByte => "neither 01 nor 02",
+            Reason::TooManyRows => "more than 32 rows",
+            Reason::Refused(refusal) => describe_refusal(refusal),
+            Reason::Zero => "row without terms",
+            Reason::NotMonic => "leading coefficient is not 1",
+            Reason::Repeated => "leading monomial of an earlier row",
+        }
+    }
+}
+
+fn describe_refusal(refusal: &Refusal) -> &'static str
+    ensures { λ r. ⌜ now r ≡ refusal-text (now (refusal .entry)) ⌝ }
+{
+    match refusal {
+        Refusal::TooManyTerms => "more than 40 terms",
+        Refusal::Coefficient(_) => "coefficient is 0 or no code",
+        Refusal::Exponent(_) => "exponent out of range",
+        Refusal::NotFalling(_) => "term does not fall",
+    }
 }
