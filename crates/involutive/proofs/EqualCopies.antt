@@ -1,0 +1,255 @@
+-- Equal copies of closed sheets and one ideal are the same thing, whatever the divisions.
+use mathlib.Core.Path.{_≡_, refl, sym, _∙_, ap, subst}
+use mathlib.Core.List.{List, _∷_, _++_, List·Memᴰ, List·Memᴰ·head, List·Memᴰ·tail}
+use Prim.Native.Nat.{ℕ, suc, _-_, _≤_}
+use Rattle.std.specs.declared.cmp.Ordering.the-variants.{Less, Equal as Same}
+use native.Mathlib.Omega.{arith}
+use lib.ListN.{length, getD, length-map, take, drop}
+use lib.Seq.{take-append-seam}
+use Rattle.polynomial.specs.declared.term.Term.{Term}
+use Rattle.field.specs.Field.{FieldMeaning, FieldLaws}
+use Rattle.monomial.specs.Monomial.{In, Wide, times, quotient, Divides}
+use Rattle.monomial.specs.Order.{Compare, OrderLaws, Under}
+use Rattle.monomial.specs.Division.{Split, DivisionLaws, Within, Involutive}
+use Rattle.polynomial.specs.Polynomial.{Poly, Over, term, exponents, Written}
+use Rattle.involutive.specs.Value.{leading, scaled, minus}
+use Rattle.involutive.specs.Ideal.{Member, SameIdeal}
+use Rattle.involutive.specs.Reduction.{row, leaders, Irreducible}
+use Rattle.involutive.specs.Sheet.{Setting, State, Closed, Lawful}
+use Rattle.involutive.specs.Answers.{Answer, copied-answer, front, Minimal, Selection, Copies, copies, FairCopies, copy-open, copy-denied, copy-short, copy-written}
+use Rattle.polynomial.specs.Bytes.{copy-bytes}
+use Rattle.involutive.specs.Complete.{GrantedCopy, under-division, Copies-decide}
+use Rattle.involutive.proofs.Lists
+use Rattle.involutive.proofs.Monomials
+use Rattle.involutive.proofs.Monomials.{Mono}
+use Rattle.involutive.proofs.Ideals
+use Rattle.involutive.proofs.Bytes
+use Rattle.involutive.proofs.Copying.{CopyOf, Beside, no-more, one-more, beside, copy-from, copy-to}
+use Rattle.involutive.proofs.Soundness
+use Rattle.involutive.specs.Sound.{Sound}
+use Rattle.involutive.proofs.ClosedSheets
+use Rattle.involutive.proofs.Remainders
+
+divides-trans : (u m n : List ℕ) → Divides u m → Divides m n → Divides u n
+divides-trans u m n h k v = omega (arith, h v, k v)
+
+divides-both : (u m : List ℕ) → Wide u → Wide m → Divides u m → Divides m u → u ≡ m
+divides-both u m a b h k = Lists.same-entries u m (a ∙ sym b) (λ i. let e : suc i - 1 ≡ i = omega arith in let x = h (suc i) in let y = k (suc i) in let p : getD u i 0 ≤ getD m i 0 = rw e at x in let q : getD m i 0 ≤ getD u i 0 = rw e at y in omega arith)
+
+module _ (F : FieldMeaning) (O : Compare) (N : ℕ) (L : FieldLaws F) (Q : OrderLaws O) (V : Within N 6) where
+  abbrev set : Split → Setting
+  set D = record { field = F; order = O; division = D; variables = N }
+
+  abbrev lawful : {D : Split} → DivisionLaws D → Lawful (set D)
+  lawful E = record { field = L; order = Q; division = E; variables = V }
+
+  -- a closed sheet and its copies
+  record Side (D : Split) (E : DivisionLaws D) : Type 0 where
+    s : State
+    sound : Sound (set D) s
+    closed : Closed (set D) s
+    ks : List ℕ
+    fs : List Poly
+    selection : Selection (set D) s ks
+    copied : Beside (set D) s ks fs
+
+  asym : (u m : List ℕ) → Wide u → Wide m → Under O u m → Under O m u → ⊥
+  asym u m a b h k = let z : Less ≡ Same = sym (Q .transitive u m u a b a h k) ∙ Q .equal u u a a .1 refl in let y : _≡_ {A = ℕ} 0 1 = cc in omega arith
+
+  module _ {D : Split} {E : DivisionLaws D} (A : Side D E) where
+    abbrev lm : ℕ → List ℕ
+    lm k = leading (row (A .s .rows) k)
+
+    abbrev In-rows : ℕ → Type 0
+    In-rows k = Within k (length (A .s .rows))
+
+    wide-lm : (k : ℕ) → Wide (lm k)
+    wide-lm k = Soundness.row-wide (set D) (lawful E) (A .sound) k
+
+    -- the first term of a row, and of its copy
+    record First (k : ℕ) : Type 0 where
+      tail : Poly
+      is : row (A .s .rows) k ≡ term 1 (lm k) ∷ tail
+      good : Written F O N (row (A .s .rows) k)
+
+    first : (k : ℕ) → In-rows k → First k
+    first k w =
+        let r = Soundness.row-at (set D) (lawful E) (A .sound) k w in
+        let p = Soundness.first-term (set D) (lawful E) (row (A .s .rows) k) r in
+        record { tail = p .0; is = p .1; good = r .acceptable .written }
+
+    rows-over : (p : Poly) → List·Memᴰ p (A .s .rows) → Over F N p
+    rows-over p h = A .sound .each p h .acceptable .written .over
+
+    row-member : (k : ℕ) → In-rows k → Member F N (A .s .rows) (row (A .s .rows) k)
+    row-member k w = Ideals.member-generator F L N (A .s .rows) rows-over (row (A .s .rows) k) (Soundness.row-mem (set D) (lawful E) (A .s .rows) (k - 1) (omega arith))
+
+    in-rows : (k : ℕ) → List·Memᴰ k (A .ks) → In-rows k
+    in-rows k h = A .selection .minimal k .0 h .within
+
+    copy-is : (k : ℕ) {f : Poly} → In-rows k → (c : CopyOf (set D) (A .s) k f) → f ≡ term 1 (lm k) ∷ c .rest
+    copy-is k w c = c .is ∙ ap (λ x. take 1 x ++ c .rest) (first k w .is)
+
+    -- what is written, a member, and starts with a monomial, shows a row that divides it
+    record Row (m : List ℕ) : Type 0 where
+      k : ℕ
+      within : In-rows k
+      divides : Divides (lm k) m
+
+    shown : (t : Term) (f : Poly) → Written F O N (t ∷ f) → Member F N (A .s .rows) (t ∷ f) → Row (exponents t)
+    shown t f w h =
+        let r = ClosedSheets.lead-divisor (set D) (lawful E) (A .s) (A .sound) (A .closed) t f w h in
+        let v : In-rows (r .0) = rw (length-map (A .s .rows) leading) at (r .1 .within) in
+        record { k = r .0; within = v; divides = subst (λ x. Divides x (exponents t)) (Soundness.lead-at (A .s .rows) (r .0 - 1) (omega arith)) (r .1 .divides) }
+
+  abbrev Inside : {D D′ : Split} {E : DivisionLaws D} {E′ : DivisionLaws D′} → Side D E → Side D′ E′ → Type 0
+  Inside A C = (f : Poly) → Over F N f → Member F N (A .s .rows) f → Member F N (C .s .rows) f
+
+  module _ {D D′ : Split} {E : DivisionLaws D} {E′ : DivisionLaws D′} (A : Side D E) (C : Side D′ E′) (i : Inside A C) where
+    covers : (k : ℕ) → In-rows A k → Row C (lm A k)
+    covers k w = let r = first A k w in shown C (term 1 (lm A k)) (r .tail) (subst (Written F O N) (r .is) (r .good)) (subst (Member F N (C .s .rows)) (r .is) (i (row (A .s .rows) k) (r .good .over) (row-member A k w)))
+
+  module _ {D D′ : Split} {E : DivisionLaws D} {E′ : DivisionLaws D′} (A : Side D E) (C : Side D′ E′) (i : Inside A C) (j : Inside C A) where
+    -- a row of C that is as low as a minimal row of A
+    record Twin (k : ℕ) : Type 0 where
+      k′ : ℕ
+      minimal : Minimal (set D′) (C .s) k′
+      same : lm A k ≡ lm C k′
+
+    -- a row of C whose leading monomial divides that of a minimal row of A
+    equals : (k : ℕ) → Minimal (set D) (A .s) k → (n : ℕ) → In-rows C n → Divides (lm C n) (lm A k) → lm A k ≡ lm C n
+    equals k m n w d =
+        let r = covers C A j n w in
+        let e : r .k ≡ k = m .undivided (r .k) (r .within) (divides-trans (lm A (r .k)) (lm C n) (lm A k) (r .divides) d) in
+        divides-both (lm A k) (lm C n) (wide-lm A k) (wide-lm C n) (subst (λ x. Divides (lm A x) (lm C n)) e (r .divides)) d
+
+    twin : (k : ℕ) → Minimal (set D) (A .s) k → Twin k
+    twin k m =
+        let r = covers A C i k (m .within) in
+        let e : lm A k ≡ lm C (r .k) = equals k m (r .k) (r .within) (r .divides) in
+        record {
+          k′ = r .k;
+          minimal = record {
+            within = r .within;
+            undivided = λ n w d. C .sound .once n (r .k) w (r .within) (sym (equals k m n w (subst (Divides (lm C n)) (sym e) d)) ∙ e);
+          };
+          same = e;
+        }
+
+    -- what is irreducible for one table is irreducible for the other
+    irreducible : (g : Poly) → Written F O N g → Irreducible F O D′ N (C .s .rows) g → Irreducible F O D N (A .s .rows) g
+    irreducible g w h t m k v =
+        let n : In-rows A k = rw (length-map (A .s .rows) leading) at (v .within) in
+        let f = first A k n in
+        let c : In N (exponents t) = w .over t m .1 in
+        let a : List ℕ = quotient (exponents t) (lm A k) in
+        let an : In N a = Monomials.in-quotient (lm A k) c (wide-lm A k) in
+        let l : Divides (lm A k) (exponents t) = subst (λ x. Divides x (exponents t)) (Soundness.lead-at (A .s .rows) (k - 1) (omega arith)) (v .divides) in
+        let p : Poly = scaled F 1 a (row (A .s .rows) k) in
+        let pw : Written F O N p = Soundness.written-scaled (set D) (lawful E) 1 a (omega arith) (L .differ) an (row (A .s .rows) k) (f .good) in
+        let pm : Member F N (A .s .rows) p = Ideals.member-scaled F L N 1 a (L .differ) an (A .s .rows) (rows-over A) (row (A .s .rows) k) (f .good .over) (row-member A k n) in
+        let e : p ≡ scaled F 1 a (term 1 (lm A k) ∷ f .tail) = ap (scaled F 1 a) (f .is) in
+        let r = ClosedSheets.lead-divisor (set D′) (lawful E′) (C .s) (C .sound) (C .closed) (term (F .mul 1 1) (times a (lm A k))) (scaled F 1 a (f .tail)) (subst (Written F O N) e pw) (subst (Member F N (C .s .rows)) e (i p (pw .over) pm)) in
+        let q : times a (lm A k) ≡ exponents t = Monomials.times-comm a (lm A k) ∙ Monomials.times-quotient (lm A k) (exponents t) (wide-lm A k ∙ sym (c .wide)) (λ x. let y : suc x - 1 ≡ x = omega arith in rw y at (l (suc x))) in
+        h t m (r .0) (subst (Involutive D′ (leaders (C .s .rows)) (r .0)) q (r .1))
+
+    -- every copy of A is one of C
+    into : (f : Poly) → List·Memᴰ f (A .fs) → List·Memᴰ f (C .fs)
+    into f h =
+        let a = copy-from (set D) (A .s) (A .copied) f h in
+        let m = A .selection .minimal (a .k) .0 (a .stands) in
+        let t = twin (a .k) m in
+        let c = copy-to (set D′) (C .s) (C .copied) (t .k′) (C .selection .minimal (t .k′) .1 (t .minimal)) in
+        let x = Soundness.reduces-written (set D) (lawful E) (a .copy .reduced) (Soundness.tail-written (set D) (lawful E) (A .sound) (a .k)) (a .copy .rest) refl in
+        let y = Soundness.reduces-written (set D′) (lawful E′) (c .copy .reduced) (Soundness.tail-written (set D′) (lawful E′) (C .sound) (t .k′)) (c .copy .rest) refl in
+        let e : f ≡ term 1 (lm A (a .k)) ∷ a .copy .rest = copy-is A (a .k) (m .within) (a .copy) in
+        let d : c .f ≡ term 1 (lm A (a .k)) ∷ c .copy .rest = copy-is C (t .k′) (t .minimal .within) (c .copy) ∙ ap (λ z. term 1 z ∷ c .copy .rest) (sym (t .same)) in
+        let u = ClosedSheets.fair (set D) (lawful E) (A .s) (A .sound) (a .k) (m .within) (a .copy) in
+        let v = ClosedSheets.fair (set D′) (lawful E′) (C .s) (C .sound) (t .k′) (t .minimal .within) (c .copy) in
+        let o : Over F N (term 1 (lm A (a .k)) ∷ a .copy .rest) = subst (Over F N) e (u .good .over) in
+        let n : Member F N (A .s .rows) (minus F (a .copy .rest) (c .copy .rest)) = Ideals.member-tails F L N (term 1 (lm A (a .k))) (o _ (List·Memᴰ·head refl)) (A .s .rows) (rows-over A) (a .copy .rest) (x .0 .over) (c .copy .rest) (y .0 .over) (subst (Member F N (A .s .rows)) e (u .member)) (subst (Member F N (A .s .rows)) d (j (c .f) (v .good .over) (v .member))) in
+        let g : a .copy .rest ≡ c .copy .rest = ClosedSheets.one-remainder (set D) (lawful E) (A .s) (A .sound) (A .closed) (a .copy .rest) (c .copy .rest) (x .0) (y .0) (x .1) (irreducible (c .copy .rest) (y .0) (y .1)) n in
+        subst (λ z. List·Memᴰ z (C .fs)) (d ∙ ap (λ z. term 1 (lm A (a .k)) ∷ z) (sym g) ∙ sym e) (c .stands)
+
+  -- ---- the copies rise
+  abbrev Lower : Poly → Poly → Type 0
+  Lower f g = Wide (leading f) × Wide (leading g) × Under O (leading f) (leading g)
+
+  lower-asym : (f g : Poly) → Lower f g → Lower g f → ⊥
+  lower-asym f g a b = asym (leading f) (leading g) (a .0) (a .1) (a .2) (b .2)
+
+  module _ {D : Split} {E : DivisionLaws D} (A : Side D E) where
+    leads : (k : ℕ) {f : Poly} → In-rows A k → CopyOf (set D) (A .s) k f → leading f ≡ lm A k
+    leads k w c = ap leading (copy-is A k w c)
+
+    rise : {ks : List ℕ} {fs : List Poly} → Lists.Up (λ j k. Under O (lm A j) (lm A k)) ks → Beside (set D) (A .s) ks fs → ((k : ℕ) → List·Memᴰ k ks → In-rows A k) → Lists.Up Lower fs
+    rise Lists.up-nil no-more w = Lists.up-nil
+    rise (Lists.up-cons u p) (one-more {k = k} {f = f} c b) w = Lists.up-cons
+        (λ g h. let r = copy-from (set D) (A .s) b g h in
+        let x : leading f ≡ lm A k = leads k (w k (List·Memᴰ·head refl)) c in
+        let y : leading g ≡ lm A (r .k) = leads (r .k) (w (r .k) (List·Memᴰ·tail (r .stands))) (r .copy) in
+        (rw x (wide-lm A k), rw y (wide-lm A (r .k)), rw (x, y) (u (r .k) (r .stands))))
+        (rise p b (λ k h. w k (List·Memᴰ·tail h)))
+
+    rising : Lists.Up Lower (A .fs)
+    rising = rise (Soundness.rising-up (set D) (lawful E) (A .sound) (A .selection .rising)) (A .copied) (in-rows A)
+
+    wides : (f : Poly) → List·Memᴰ f (A .fs) → Bytes.Wides f
+    wides f h t m = let a = copy-from (set D) (A .s) (A .copied) f h in ClosedSheets.fair (set D) (lawful E) (A .s) (A .sound) (a .k) (in-rows A (a .k) (a .stands)) (a .copy) .good .over t m .1 .wide
+
+  same-copies : {D D′ : Split} {E : DivisionLaws D} {E′ : DivisionLaws D′} (A : Side D E) (C : Side D′ E′) → Inside A C → Inside C A → A .fs ≡ C .fs
+  same-copies A C i j = Lists.up-eq Lower lower-asym (rising A) (rising C) (into A C i j) (into C A j i)
+
+-- the bytes of a granted fair copy are those of the copied rows
+record CopiedBytes (S : Setting) (s : State) (b : List ℕ) : Type 0 where
+  ks : List ℕ
+  fs : List Poly
+  selection : Selection S s ks
+  copied : Copies S s ks (copies fs)
+  bytes : b ≡ copy-bytes fs
+
+granted : (S : Setting) (s : State) (b : List ℕ) → GrantedCopy S s b → CopiedBytes S s b
+granted S s b G = go (G .grant) refl (G .front)
+  where
+    go : {a : Answer} {after : List ℕ} → FairCopies S s (G .out) a after → a ≡ copied-answer (G .rows) (length b) → take (length b) after ≡ b → CopiedBytes S s b
+    go (copy-open n) e d = let z : _≡_ {A = ℕ} 0 1 = cc in absurd (omega arith)
+    go (copy-denied c z m) e d = let z : _≡_ {A = ℕ} 0 1 = cc in absurd (omega arith)
+    go (copy-short c z m l) e d = let z : _≡_ {A = ℕ} 0 1 = cc in absurd (omega arith)
+    go (copy-written {ks = ks} {fs = fs} c z m l) e d =
+        let n : length (copy-bytes fs) ≡ length b = cc in
+        record { ks = ks; fs = fs; selection = z; copied = m; bytes = sym d ∙ ap (λ i. take i (front (copy-bytes fs) (G .out))) (sym n) ∙ take-append-seam (copy-bytes fs) (drop (length (copy-bytes fs)) (G .out)) }
+
+module _ (S : Setting) (W : Lawful S) where
+  abbrev F : FieldMeaning
+  F = S .field
+
+  abbrev Sd : (D : Split) → DivisionLaws D → Type 0
+  Sd = Side (S .field) (S .order) (S .variables) (W .field) (W .order) (W .variables)
+
+  both-ways : {gs hs : List Poly} → SameIdeal F (S .variables) gs hs → SameIdeal F (S .variables) hs gs
+  both-ways h f o = (h f o .1, h f o .0)
+
+  chain : {fs gs hs : List Poly} → SameIdeal F (S .variables) fs gs → SameIdeal F (S .variables) gs hs → SameIdeal F (S .variables) fs hs
+  chain h k f o = (λ m. k f o .0 (h f o .0 m), λ m. h f o .1 (k f o .1 m))
+
+  pub copies-decide : (D : Split) → DivisionLaws D → Copies-decide S D
+  copies-decide D E calls calls′ s s′ gs hs a c a′ c′ b b′ G G′ =
+      let S′ : Setting = under-division S D in
+      let W′ : Lawful S′ = record { field = W .field; order = W .order; division = E; variables = W .variables } in
+      let so = Soundness.sound S W a in
+      let so′ = Soundness.sound S′ W′ a′ in
+      let H = granted S s b G in
+      let H′ = granted S′ s′ b′ G′ in
+      let A : Sd (S .division) (W .division) = record { s = s; sound = so; closed = c; ks = H .ks; fs = H .fs; selection = H .selection; copied = beside S s (H .copied) } in
+      let C : Sd D E = record { s = s′; sound = so′; closed = c′; ks = H′ .ks; fs = H′ .fs; selection = H′ .selection; copied = beside S′ s′ (H′ .copied) } in
+      let k : SameIdeal F (S .variables) (s .rows) gs = Remainders.keeps-ideal S W calls s gs a in
+      let k′ : SameIdeal F (S .variables) (s′ .rows) hs = Remainders.keeps-ideal S′ W′ calls′ s′ hs a′ in
+      let g : SameIdeal F (S .variables) (s .rows) (H .fs) = ClosedSheets.copies-ideal S W s so c (H .ks) (H .fs) (H .selection) (H .copied) in
+      let g′ : SameIdeal F (S .variables) (s′ .rows) (H′ .fs) = ClosedSheets.copies-ideal S′ W′ s′ so′ c′ (H′ .ks) (H′ .fs) (H′ .selection) (H′ .copied) in (
+        λ e.
+            let d : H .fs ≡ H′ .fs = Bytes.same-copies (H .fs) (H′ .fs) (wides _ _ _ _ _ _ A) (wides _ _ _ _ _ _ C) (sym (H .bytes) ∙ e ∙ H′ .bytes) in
+            chain (both-ways k) (chain (subst (SameIdeal F (S .variables) (s .rows)) d g) (chain (both-ways g′) k′)),
+        λ h.
+            let i : SameIdeal F (S .variables) (s .rows) (s′ .rows) = chain k (chain h (both-ways k′)) in
+            H .bytes ∙ ap copy-bytes (same-copies _ _ _ _ _ _ A C (λ f o m. i f o .0 m) (λ f o m. i f o .1 m)) ∙ sym (H′ .bytes),
+      )

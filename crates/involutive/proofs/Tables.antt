@@ -1,0 +1,454 @@
+-- A table of monic rows with distinct leading monomials, and reducing by it.
+use mathlib.Core.Path.{_≡_, refl, sym, _∙_, ap, subst}
+use mathlib.Core.HLevel.{Σ-prop-path, ×-prop}
+use mathlib.Core.Bool.{Bool, true, false}
+use mathlib.Core.List.{List, [], _∷_, _++_, map, List·Memᴰ, List·Memᴰ·head, List·Memᴰ·tail, List·Memᴰ·not-nil}
+use mathlib.Core.Logic.{_⊎_, inl, inr, ⊎-elim}
+use mathlib.Core.WellFounded.{Acc, InvImage·accessible}
+use native.Mathlib.Decide.{decLt}
+use Rattle.involutive.proofs.Walks
+use Prim.Native.Nat.{ℕ, zero, suc, _-_, _≤_, _<_}
+use native.Mathlib.Bridge.{le-prop}
+use native.Mathlib.Omega.{arith}
+use lib.ListN.{length, getD, length-map, take, drop}
+use Rattle.std.proofs.shelf.Tests.{cases-eq}
+use Rattle.std.specs.declared.option.Option.the-variants.{Some}
+use Rattle.field.specs.Field.{FieldMeaning, FieldLaws}
+use Rattle.monomial.specs.Order.{Compare, OrderLaws}
+use Rattle.monomial.specs.Division.{Split, DivisionLaws, Within, Distinct, Involutive, Next, member}
+use Rattle.monomial.specs.Monomial.{width, exponent, variable, times, quotient, Divides}
+use Rattle.involutive.specs.Value
+use Rattle.polynomial.specs.Polynomial.{Poly, term, exponents}
+use Rattle.involutive.specs.Reduction.{Irreducible, row, leaders, Outcome, left, Reduces, done, wide, long, acts}
+use Rattle.involutive.proofs.Algebra
+use Rattle.involutive.proofs.Algebra.{Base, Span}
+use Rattle.involutive.proofs.Sums
+use Rattle.involutive.proofs.Monomials
+use Rattle.involutive.proofs.Monomials.{Mono}
+use Rattle.involutive.proofs.Typing
+use Rattle.involutive.proofs.Typing.{Code, base, Beneath}
+
+module _ (F : FieldMeaning) (L : FieldLaws F) (N : ℕ) (O : Compare) (Q : OrderLaws O) where
+  abbrev pub B : Base
+  B = base L N
+
+  abbrev pub Typed : Type 0
+  Typed = Typing.Typed F L N
+
+  abbrev pub raw : Typed → Poly
+  raw = Typing.raw F L N
+
+  abbrev pub lead : Typed → Mono N
+  lead = Typing.lead F L N
+
+  abbrev pub Sorted : Typed → Type 0
+  Sorted = Algebra.Sorted B (Beneath N O)
+
+  pub record Monic (p : Typed) : Type 0 where
+    pub head : Code F × Mono N
+    pub tail : Typed
+    pub is : p ≡ head ∷ tail
+    pub one : head .0 ≡ B .𝟙
+    pub sorted : Sorted (head ∷ tail)
+
+  pub sorted-parts : {t : Code F × Mono N} {f : Typed} → Sorted (t ∷ f) → Algebra.Below B (Beneath N O) (t .1) f × Sorted f × (t .0 ≡ B .𝟘 → ⊥)
+  sorted-parts (Algebra.more-sorted n b s) = (b, s, n)
+
+  pub monic-one : {p : Typed} → Monic p → Algebra.at B p (lead p) ≡ B .𝟙
+  monic-one m = rw (m .is) (Algebra.at-top B (Beneath N O) (Typing.line F L N O Q) (m .head) (m .tail) (sorted-parts (m .sorted) .0) ∙ m .one)
+
+  pub monic-top : {p : Typed} (u : Mono N) → Monic p → Beneath N O (lead p) u → Algebra.at B p u ≡ B .𝟘
+  monic-top {p} u m = rw (m .is) (λ h. Algebra.at-below B (Beneath N O) (Typing.line F L N O Q) (Algebra.more-below h (Algebra.below-up B (Beneath N O) (Typing.line F L N O Q) h (sorted-parts (m .sorted) .0))))
+
+  abbrev pub nth : List Typed → ℕ → Typed
+  nth T k = getD T (k - 1) []
+
+  pub record Good (T : List Typed) : Type 0 where
+    pub monic : (p : Typed) → List·Memᴰ p T → Monic p
+    pub once : (j k : ℕ) → Within j (length T) → Within k (length T) → lead (nth T j) ≡ lead (nth T k) → j ≡ k
+
+  lead-at : (T : List Typed) (i : ℕ) → i < length T → getD (map Value.leading (map raw T)) i [] ≡ lead (getD T i []) .0
+  lead-at [] i h = absurd (omega arith)
+  lead-at (p ∷ T) zero h = Typing.raw-lead F L N p
+  lead-at (p ∷ T) (suc i) h = lead-at T i (omega arith)
+
+  module _ (V : Within N 6) (D : Split) (E : DivisionLaws D) (T : List Typed) (G : Good T) where
+    abbrev U : List (List ℕ)
+    U = leaders (map raw T)
+
+    size : length U ≡ length T
+    size = simp length-map
+
+    member-lead : (k : ℕ) → Within k (length T) → member U k ≡ lead (nth T k) .0
+    member-lead k w = lead-at T (k - 1) (omega arith)
+
+    in-U : {k : ℕ} → Within k (length T) → Within k (length U)
+    in-U w = rw size w
+
+    out-U : {k : ℕ} → Within k (length U) → Within k (length T)
+    out-U w = rw size at w
+
+    distinct : Distinct U
+    distinct = record {
+      wide = λ k w. rw (member-lead k (out-U w)) (lead (nth T k) .1 .wide);
+      once = λ j k w v e. G .once j k (out-U w) (out-U v) (Monomials.mono-eq (sym (member-lead j (out-U w)) ∙ e ∙ member-lead k (out-U v)));
+    }
+
+    abbrev R : Type 0
+    R = (k : ℕ) × Within k (length T)
+
+    abbrev Mul : R → Mono N → Type 0
+    Mul k a = (v : ℕ) → Within v N → 0 < exponent (a .0) v → D U (k .0) v ≡ Some true
+
+    involutive : (k : R) (a : Mono N) → Mul k a → Involutive D U (k .0) (Monomials.mul a (lead (nth T (k .0))) .0)
+    involutive k a m =
+        let l : Mono N = lead (nth T (k .0)) in
+        let e : member U (k .0) ≡ l .0 = member-lead (k .0) (k .1) in
+        let within : (v : ℕ) → Within v width → 0 < exponent (a .0) v → D U (k .0) v ≡ Some true = λ v w h. m v (w .0, Monomials.inside a v h) h in
+        let q : Monomials.over (Monomials.mul a l) l ≡ a = ap (λ x. Monomials.over x l) (Monomials.mul-comm a l) ∙ Monomials.over-mul l a in
+        record {
+          within = in-U (k .1);
+          divides = subst (λ x. Divides x (Monomials.mul a l .0)) (sym e) (subst (λ x. Divides (l .0) (x .0)) (Monomials.mul-comm l a) (Monomials.divides-mul l a));
+          multiplicative = λ v w h. within v w (subst (λ x. 0 < exponent (x .0) v) q (subst (λ x. 0 < exponent (quotient (Monomials.mul a l .0) x) v) e h));
+        }
+
+    row-eq : {j k : R} → j .0 ≡ k .0 → j ≡ k
+    row-eq e = Σ-prop-path (λ k. ×-prop le-prop le-prop) e
+
+    pub unique : (j k : R) (a b : Mono N) → Mul j a → Mul k b → Monomials.mul a (lead (nth T (j .0))) ≡ Monomials.mul b (lead (nth T (k .0))) → j ≡ k
+    unique j k a b m n e = row-eq (E .no-two U distinct (Monomials.mul a (lead (nth T (j .0))) .0) (Monomials.mul a (lead (nth T (j .0))) .1 .wide) (j .0) (k .0) (involutive j a m) (subst (λ x. Involutive D U (k .0) (x .0)) (sym e) (involutive k b n)))
+
+    pub monic-at : (k : R) → Monic (nth T (k .0))
+    monic-at k = G .monic (nth T (k .0)) (Typing.row-member F L N T (k .0 - 1) (omega arith))
+
+    pub under-one : (m : Mono N) → Dec (m ≡ Monomials.unit) → (m ≡ Monomials.unit) ⊎ Beneath N O Monomials.unit m
+    under-one m (yes e) = inl e
+    under-one m (no n) = inr (Q .least (m .0) (m .1 .wide) (λ e. n (Monomials.mono-eq e)))
+
+    abbrev pub chart : Sums.Chart B
+    chart = record {
+      _≺_ = Beneath N O;
+      ≺-trans = Typing.under-trans F L N O Q;
+      ≺-irr = Typing.under-irr F L N O Q;
+      ≺-tri = Typing.under-tri F L N O Q;
+      ≺-mul = λ a u m h. Q .factor (a .0) (u .0) (m .0) (a .1 .wide) (u .1 .wide) (m .1 .wide) ∙ h;
+      ≺-wf = λ m. InvImage·accessible (λ m. (m .0, m .1 .wide)) (Q .falls .apply (m .0, m .1 .wide));
+      ≺-one = λ m. under-one m (Monomials.same? m Monomials.unit);
+      R = R;
+      row = λ k. Algebra.at B (nth T (k .0));
+      lead = λ k. lead (nth T (k .0));
+      lead-one = λ k. monic-one (monic-at k);
+      lead-top = λ k m h. monic-top m (monic-at k) h;
+      Mul = Mul;
+      unique = unique;
+    }
+
+    abbrev SumUpto : Mono N → Algebra.V B → Type 0
+    SumUpto H v = Sums.Sum B chart (Sums.Upto B chart H) v
+
+    -- a term's involutive divisor, as a row and a multiplier
+    record Divisor (u : Mono N) : Type 0 where
+      k : R
+      a : Mono N
+      mul : Mul k a
+      height : Monomials.mul a (lead (nth T (k .0))) ≡ u
+
+    divisor : (u : Mono N) (k : ℕ) → Involutive D U k (u .0) → Divisor u
+    divisor u k i =
+        let w : Within k (length T) = out-U (i .within) in
+        let e : member U k ≡ lead (nth T k) .0 = member-lead k w in
+        let l : Mono N = lead (nth T k) in
+        record {
+          k = (k, w);
+          a = Monomials.over u l;
+          mul = λ v q h. i .multiplicative v (q .0, omega arith) (subst (λ x. 0 < exponent (quotient (u .0) x) v) (sym e) h);
+          height = Monomials.mul-comm (Monomials.over u l) l ∙ Monomials.mul-over l u (subst (λ x. Divides x (u .0)) e (i .divides));
+        }
+
+    pub record Reduced (H : Mono N) (p : Typed) (g : Poly) : Type 0 where
+      pub poly : Typed
+      pub is : raw poly ≡ g
+      pub sorted : Sorted poly
+      pub sum : Sums.Sum B chart (Sums.Upto B chart H) (Algebra._⊕_ B (Algebra.at B p) (Algebra.⊖ B (Algebra.at B poly)))
+      pub irreducible : Irreducible F O D N (map raw T) g
+
+    Bounded : Mono N → Typed → Type 0
+    Bounded H p = (m : Mono N) → Beneath N O H m → Algebra.at B p m ≡ B .𝟘
+
+    under-bound : (H : Mono N) (p : Typed) (u : Code F × Mono N) → Sorted p → Bounded H p → List·Memᴰ u p → Sums.Upto B chart H (u .1)
+    unfolding Bounded
+    under-bound H p u s b h =
+        let r = Algebra.sorted-at B (Beneath N O) (Typing.line F L N O Q) u s h in
+        ⊎-elim (λ l. inl l) (⊎-elim (λ e. inr e) (λ l. absurd (r .1 (sym (r .0) ∙ b (u .1) l)))) (Typing.under-tri F L N O Q (u .1) H)
+
+    reduced : {room : ℕ} {h : Poly} {o : Outcome} → Reduces F O D N (map raw T) room h o → (H : Mono N) (p : Typed) → raw p ≡ h → Sorted p → Bounded H p → (g : Poly) → o ≡ left g → Reduced H p g
+    unfolding Bounded divisor
+    reduced (done i) H p e s b g d =
+        let f : raw p ≡ g = cc in
+        record { poly = p; is = f; sorted = s; sum = Sums.nil (Algebra.⊕-⊖ B (Algebra.at B p)); irreducible = subst (Irreducible F O D N (map raw T)) (sym e ∙ f) i }
+    reduced (wide r f) H p e s b g d = let z : _≡_ {A = ℕ} 0 1 = cc in absurd (omega arith)
+    reduced (long r f x l) H p e s b g d = let z : _≡_ {A = ℕ} 0 1 = cc in absurd (omega arith)
+    reduced (acts {h = h} {g = g′} {t = t} {k = k} r f x l more) H p e s b g d =
+        let u = Typing.raw-term F L N p {t = t} (rw e (r .stands)) in
+        let q = Typing.typed F L N g′ (x .written .over) in
+        let v = divisor (u .0 .1) k (subst (λ y. Involutive D U k (exponents y)) (u .2) (r .divisor)) in
+        let w : Algebra.at B (q .0) ≡ Algebra._⊕_ B (Algebra.at B p) (Algebra.⊖ B (Algebra.shift B (u .0 .0) (v .a) (Algebra.at B (nth T k)))) = Typing.action-value F L N O D T p (q .0) (u .0) k (rw (e, q .1, ← (u .2)) x) in
+        let n : Sums.Upto B chart H (Monomials.mul (v .a) (lead (nth T k))) = subst (Sums.Upto B chart H) (sym (v .height)) (under-bound H p (u .0) s b (u .1)) in
+        let above : (m : Mono N) → Beneath N O H m → Beneath N O (Monomials.mul (v .a) (lead (nth T k))) m = λ m y. ⊎-elim (λ z. Typing.under-trans F L N O Q (Monomials.mul (v .a) (lead (nth T k))) H m z y) (λ z. subst (λ x. Beneath N O x m) (sym z) y) n in
+        let b′ : Bounded H (q .0) = λ m y. ap (λ z. z m) w ∙ Algebra.minus-off B (Algebra.at B p) (Algebra.shift B (u .0 .0) (v .a) (Algebra.at B (nth T k))) m (b m y) (Sums.term-above B chart (u .0 .0) (v .a) (v .k) m (above m y)) in
+        let z = reduced more H (q .0) (q .1) (Typing.written-sorted F L N O Q (q .0) (rw (q .1) (x .written))) b′ g d in
+        record {
+          poly = z .poly;
+          is = z .is;
+          sorted = z .sorted;
+          irreducible = z .irreducible;
+          sum = Sums.add (u .0 .0) (v .k) (v .a) (v .mul) n (z .sum) (Algebra.minus-chain B (Algebra.at B p) (Algebra.at B (q .0)) (Algebra.at B (z .poly)) ∙ ap (λ y. Algebra._⊕_ B y (Algebra._⊕_ B (Algebra.at B (q .0)) (Algebra.⊖ B (Algebra.at B (z .poly))))) (Algebra.minus-minus B (Algebra.at B p) (Algebra.at B (q .0)) (Algebra.shift B (u .0 .0) (v .a) (Algebra.at B (nth T k))) w));
+        }
+
+    -- ---- what is left of terms below h is below h
+    reduces-nil : {room : ℕ} {h : Poly} {o : Outcome} → Reduces F O D N (map raw T) room h o → h ≡ [] → (g : Poly) → o ≡ left g → g ≡ []
+    reduces-nil (done i) e g d = cc
+    reduces-nil (wide r f) e g d = let z : _≡_ {A = ℕ} 0 1 = cc in absurd (omega arith)
+    reduces-nil (long r f x l) e g d = let z : _≡_ {A = ℕ} 0 1 = cc in absurd (omega arith)
+    reduces-nil (acts {t = t} r f x l more) e g d = absurd (List·Memᴰ·not-nil (subst (List·Memᴰ t) e (r .stands)))
+
+    below-all : (h : Mono N) (q : Typed) → ((t : Code F × Mono N) → List·Memᴰ t q → Beneath N O (t .1) h) → Algebra.Below B (Beneath N O) h q
+    below-all h [] f = Algebra.none-below
+    below-all h (t ∷ q) f = Algebra.more-below (f t (List·Memᴰ·head refl)) (below-all h q (λ u k. f u (List·Memᴰ·tail k)))
+
+    sum-span : {X : Mono N → Type 0} {v : Algebra.V B} → Sums.Sum B chart X v → Span B T v
+    sum-span (Sums.nil e) = Algebra.none e
+    sum-span (Sums.add c k a m q s e) = Algebra.more c a (Typing.row-member F L N T (k .0 - 1) (omega arith)) (sum-span s) e
+
+    record Rest (h : Mono N) (p : Typed) (g : Poly) : Type 0 where
+      poly : Typed
+      is : raw poly ≡ g
+      sorted : Sorted poly
+      below : Algebra.Below B (Beneath N O) h poly
+      span : Span B T (Algebra._⊕_ B (Algebra.at B p) (Algebra.⊖ B (Algebra.at B poly)))
+
+    rest : {room : ℕ} (h : Mono N) (p : Typed) {g : Poly} → Reduces F O D N (map raw T) room (raw p) (left g) → Sorted p → Algebra.Below B (Beneath N O) h p → Rest h p g
+    unfolding Bounded
+    rest h [] {g} r s b = record { poly = []; is = sym (reduces-nil r refl g refl); sorted = Algebra.none-sorted; below = Algebra.none-below; span = Algebra.none (Algebra.⊕-⊖ B (Algebra.at B [])) }
+    rest h (u ∷ p) {g} r s (Algebra.more-below l b) =
+        let H : Mono N = u .1 in
+        let above : Bounded H (u ∷ p) = λ m y. Algebra.at-below B (Beneath N O) (Typing.line F L N O Q) (Algebra.more-below y (Algebra.below-up B (Beneath N O) (Typing.line F L N O Q) y (sorted-parts s .0))) in
+        let z = reduced r H (u ∷ p) refl s above g refl in
+        let still : Bounded H (z .poly) = λ m y. sym (Algebra.at-same B (Algebra.at B (u ∷ p)) (Algebra.at B (z .poly)) m (Sums.sum-above B chart (Sums.sum-map B chart (λ x. ⊎-elim (λ q. Typing.under-trans F L N O Q x H m q y) (λ q. subst (λ k. Beneath N O k m) (sym q) y)) (z .sum)))) ∙ above m y in
+        record {
+          poly = z .poly;
+          is = z .is;
+          sorted = z .sorted;
+          below = below-all h (z .poly) (λ t k. ⊎-elim (λ q. Typing.under-trans F L N O Q (t .1) H h q l) (λ q. subst (λ x. Beneath N O x h) (sym q) l) (under-bound H (z .poly) t (z .sorted) still k));
+          span = sum-span (z .sum);
+        }
+
+    -- a row whose terms but the first are reduced
+    pub record Tidied (k : R) (f : Poly) : Type 0 where
+      pub poly : Typed
+      pub is : raw poly ≡ f
+      pub monic : Monic poly
+      pub leads : lead poly ≡ lead (nth T (k .0))
+      pub span : Span B T (Algebra._⊕_ B (Algebra.at B (nth T (k .0))) (Algebra.⊖ B (Algebra.at B poly)))
+
+    pub tidied : {room : ℕ} (k : R) {g : Poly} → Reduces F O D N (map raw T) room (drop 1 (row (map raw T) (k .0))) (left g) → Tidied k (take 1 (row (map raw T) (k .0)) ++ g)
+    unfolding Algebra.at
+    tidied {room} k {g} r =
+        let m = monic-at k in
+        let e : row (map raw T) (k .0) ≡ raw (m .head ∷ m .tail) = Typing.raw-row F L N T (k .0 - 1) ∙ ap raw (m .is) in
+        let parts = sorted-parts (m .sorted) in
+        let z = rest (m .head .1) (m .tail) (subst (λ x. Reduces F O D N (map raw T) room (drop 1 x) (left g)) e r) (parts .1) (parts .0) in
+        record {
+          poly = m .head ∷ z .poly;
+          is = ap {B = Poly} (λ x. term (m .head .0 .0) (m .head .1 .0) ∷ x) (z .is) ∙ ap (λ x. take 1 x ++ g) (sym e);
+          monic = record { head = m .head; tail = z .poly; is = refl; one = m .one; sorted = Algebra.more-sorted (parts .2) (z .below) (z .sorted) };
+          leads = ap lead (sym (m .is));
+          span = subst (λ x. Span B T (Algebra._⊕_ B (Algebra.at B x) (Algebra.⊖ B (Algebra.at B (m .head ∷ z .poly))))) (sym (m .is)) (subst (Span B T) (sym (Algebra.minus-front B (Algebra.single B (m .head .0) (m .head .1)) (Algebra.at B (m .tail)) (Algebra.at B (z .poly)))) (z .span));
+        }
+
+    below-shift : (x m : Mono N) {f : Typed} → Algebra.Below B (Beneath N O) m f → Algebra.Below B (Beneath N O) (Monomials.mul x m) (Algebra.scaled B (B .𝟙) x f)
+    unfolding Algebra.scaled
+    below-shift x m Algebra.none-below = Algebra.none-below
+    below-shift x m (Algebra.more-below {t = t} h b) = Algebra.more-below (Q .factor (x .0) (t .1 .0) (m .0) (x .1 .wide) (t .1 .1 .wide) (m .1 .wide) ∙ h) (below-shift x m b)
+
+    sorted-shift : (x : Mono N) {f : Typed} → Sorted f → Sorted (Algebra.scaled B (B .𝟙) x f)
+    unfolding Algebra.scaled
+    sorted-shift x Algebra.none-sorted = Algebra.none-sorted
+    sorted-shift x (Algebra.more-sorted {t = t} n b s) = Algebra.more-sorted (λ e. n (sym (B .1* (t .0)) ∙ e)) (below-shift x (t .1) b) (sorted-shift x s)
+
+    nothing : (p : Typed) → raw p ≡ [] → Algebra.at B p ≡ Algebra.𝟎 B
+    unfolding Algebra.at
+    nothing [] e = refl
+    nothing (t ∷ p) e = let z : suc (length (raw p)) ≡ 0 = ap length e in absurd (omega arith)
+
+    -- the prolongation of row k by a variable, if it reduces to nothing, is a sum no higher than it is
+    prolonged-sum : {room : ℕ} (k : R) (v : ℕ) (vn : Within v N) → Reduces F O D N (map raw T) room (Value.scaled F 1 (variable v) (row (map raw T) (k .0))) (left []) → SumUpto (Monomials.mul (Monomials.var v vn) (lead (nth T (k .0)))) (Algebra.shift B (B .𝟙) (Monomials.var v vn) (Algebra.at B (nth T (k .0))))
+    unfolding Bounded
+    prolonged-sum {room} k v vn r =
+        let y : Typed = nth T (k .0) in
+        let p : Typed = Algebra.scaled B (B .𝟙) (Monomials.var v vn) y in
+        let H : Mono N = Monomials.mul (Monomials.var v vn) (lead y) in
+        let e : raw p ≡ Value.scaled F 1 (variable v) (row (map raw T) (k .0)) = Typing.raw-scaled F L N (B .𝟙) (Monomials.var v vn) y ∙ ap (Value.scaled F 1 (variable v)) (sym (Typing.raw-row F L N T (k .0 - 1))) in
+        let a : Algebra.at B p ≡ Algebra.shift B (B .𝟙) (Monomials.var v vn) (Algebra.at B y) = Algebra.at-scaled B (B .𝟙) (Monomials.var v vn) y in
+        let m = monic-at k in
+        let z = reduced r H p e (sorted-shift (Monomials.var v vn) (subst Sorted (sym (m .is)) (m .sorted))) (λ u h. ap (λ x. x u) a ∙ Sums.term-above B chart (B .𝟙) (Monomials.var v vn) k u h) [] refl in
+        subst (SumUpto H) (ap (λ x. Algebra._⊕_ B (Algebra.at B p) (Algebra.⊖ B x)) (nothing (z .poly) (z .is)) ∙ ap (Algebra._⊕_ B (Algebra.at B p)) (Algebra.⊖-0 B) ∙ Algebra.⊕0 B (Algebra.at B p) ∙ a) (z .sum)
+
+    -- ---- a variable of a that is not multiplicative for row k, or none
+    record Other (k : R) (a : Mono N) (n : ℕ) : Type 0 where
+      v : ℕ
+      within : Within v n
+      inside : 0 < exponent (a .0) v
+      not-multiplicative : D U (k .0) v ≡ Some false
+
+    scan : (k : R) (a : Mono N) (n : ℕ) → n ≤ N → ((v : ℕ) → Within v n → 0 < exponent (a .0) v → D U (k .0) v ≡ Some true) ⊎ Other k a n
+    scan k a zero h = inl (λ v w i. absurd (omega arith))
+    scan k a (suc n) h = go (scan k a n (omega arith)) (decLt 0 (exponent (a .0) (suc n))) (E .answers U (k .0) (suc n) (in-U (k .1)) (omega arith, omega arith))
+      where
+        go : ((v : ℕ) → Within v n → 0 < exponent (a .0) v → D U (k .0) v ≡ Some true) ⊎ Other k a n → Dec (0 < exponent (a .0) (suc n)) → (b : Bool) × (D U (k .0) (suc n) ≡ Some b) →
+            ((v : ℕ) → Within v (suc n) → 0 < exponent (a .0) v → D U (k .0) v ≡ Some true) ⊎ Other k a (suc n)
+        go (inr o) d b = inr (record { v = o .v; within = (o .within .0, omega arith); inside = o .inside; not-multiplicative = o .not-multiplicative })
+        go (inl f) (no d) b = inl (λ v w i. ⊎-elim (λ e. absurd (d (subst (λ x. 0 < exponent (a .0) x) e i))) (λ e. f v (w .0, omega arith) i) (cases-eq v (suc n)))
+        go (inl f) (yes d) (true, b) = inl (λ v w i. ⊎-elim (λ e. ap (D U (k .0)) e ∙ b) (λ e. f v (w .0, omega arith) i) (cases-eq v (suc n)))
+        go (inl f) (yes d) (false, b) = inr (record { v = suc n; within = (omega arith, omega arith); inside = d; not-multiplicative = b })
+
+    mem-index : (T : List Typed) {g : Typed} → List·Memᴰ g T → (i : ℕ) × (i < length T) × (g ≡ getD T i [])
+    mem-index [] h = elim h [ ]
+    mem-index (p ∷ T) (List·Memᴰ·head e) = (0, omega arith, e)
+    mem-index (p ∷ T) (List·Memᴰ·tail h) = let r = mem-index T h in (suc (r .0), omega arith, r .2)
+
+    abbrev NextRow : R → R → Type 0
+    NextRow k j = Next D U (k .0) (j .0)
+
+    -- ---- the table of a closed sheet: each prolongation by a variable that is not multiplicative reduces to nothing
+    module _ (closed : (k v : ℕ) → Within k (length T) → Within v N → D U k v ≡ Some false → (room : ℕ) × Reduces F O D N (map raw T) room (Value.scaled F 1 (variable v) (row (map raw T) k)) (left [])) where
+      not-zero : B .𝟙 ≡ B .𝟘 → ⊥
+      not-zero e = let z : _≡_ {A = ℕ} 1 0 = ap (λ x. x .0) e in omega arith
+
+      split : (k : R) (a : Mono N) → Mul k a ⊎ Sums.Prolongation B chart NextRow k a
+      split k a = ⊎-elim (λ m. inl m) (λ o. inr (go o)) (scan k a N (omega arith))
+        where
+          go : Other k a N → Sums.Prolongation B chart NextRow k a
+          go o =
+              let x : Mono N = Monomials.var (o .v) (o .within) in
+              let c = closed (k .0) (o .v) (k .1) (o .within) (o .not-multiplicative) in
+              Sums.prolongation B chart not-zero k a x (Monomials.over a x)
+              (sym (Monomials.mul-over x a (Monomials.variable-divides a (o .v) (o .within .0, omega arith) (o .inside))) ∙ Monomials.mul-comm x (Monomials.over a x))
+              (prolonged-sum k (o .v) (o .within) (c .1))
+              (λ j b m e. record {
+                from = in-U (k .1);
+                by = o .v;
+                by-within = (o .within .0, omega arith);
+                not-multiplicative = o .not-multiplicative;
+                divisor = subst (λ y. Involutive D U (j .0) y) (ap (λ y. y .0) e ∙ ap (times (variable (o .v))) (sym (member-lead (k .0) (k .1)))) (involutive j b m);
+              })
+
+      row-wf : (k : R) → Acc (λ j k. NextRow k j) k
+      row-wf k = InvImage·accessible (λ k. k .0) (Walks.next-wf D U (λ k w. E .no-return U distinct k w) (k .0))
+
+      span-sum : {v : Algebra.V B} → Span B T v → Sums.Sum B chart (λ m. Unit) v
+      span-sum (Algebra.none e) = Sums.nil e
+      span-sum (Algebra.more {w = w} {g = g} c a h s e) =
+          let i = mem-index T h in
+          let k : R = (suc (i .0), omega arith) in
+          let d : g ≡ nth T (k .0) = i .2 ∙ ap (λ x. getD T x []) (omega arith) in
+          subst (Sums.Sum B chart (λ m. Unit)) (sym (e ∙ ap (λ x. Algebra._⊕_ B (Algebra.shift B c a (Algebra.at B x)) w) d)) (Sums.sum-⊕ B chart (Sums.sum-map B chart (λ m y. tt) (Sums.tame B chart NextRow row-wf split c k a)) (span-sum s))
+
+      absent : (p : Typed) → Irreducible F O D N (map raw T) (raw p) → Sums.Irreducible B chart (Algebra.at B p)
+      absent p h k a m = Algebra.at-absent B p (Monomials.mul a (lead (nth T (k .0)))) (λ t i e. h (term (t .0 .0) (t .1 .0)) (raw-mem p i) (k .0) (subst (λ y. Involutive D U (k .0) (y .0)) (sym e) (involutive k a m)))
+        where
+          raw-mem : (p : Typed) {t : Code F × Mono N} → List·Memᴰ t p → List·Memᴰ (term (t .0 .0) (t .1 .0)) (raw p)
+          raw-mem [] i = elim i [ ]
+          raw-mem (s ∷ p) (List·Memᴰ·head e) = List·Memᴰ·head (ap (λ t. term (t .0 .0) (t .1 .0)) e)
+          raw-mem (s ∷ p) (List·Memᴰ·tail i) = List·Memᴰ·tail (raw-mem p i)
+
+      -- irreducible polynomials that differ by a member of the ideal are the same
+      pub one-remainder : (p q : Typed) → Sorted p → Sorted q → Irreducible F O D N (map raw T) (raw p) → Irreducible F O D N (map raw T) (raw q) → Span B T (Algebra._⊕_ B (Algebra.at B p) (Algebra.⊖ B (Algebra.at B q))) → p ≡ q
+      one-remainder p q s t i j h = Algebra.sorted-eq B (Beneath N O) (Typing.line F L N O Q) s t
+          (Algebra.minus-zero B (Algebra.at B p) (Algebra.at B q) (Sums.irreducible-zero B chart (span-sum h) (λ k a m. Algebra.minus-off B (Algebra.at B p) (Algebra.at B q) _ (absent p i k a m) (absent q j k a m))))
+
+      -- and so is one that differs so from the sum of two
+      pub sum-remainder : (p q r : Typed) → Irreducible F O D N (map raw T) (raw p) → Irreducible F O D N (map raw T) (raw q) → Irreducible F O D N (map raw T) (raw r) → Span B T (Algebra._⊕_ B (Algebra.at B p) (Algebra.⊖ B (Algebra._⊕_ B (Algebra.at B q) (Algebra.at B r)))) → Algebra.at B p ≡ Algebra._⊕_ B (Algebra.at B q) (Algebra.at B r)
+      sum-remainder p q r i j k h = Algebra.minus-zero B (Algebra.at B p) (Algebra._⊕_ B (Algebra.at B q) (Algebra.at B r)) (Sums.irreducible-zero B chart (span-sum h)
+          (λ l a m. Algebra.minus-off B (Algebra.at B p) (Algebra._⊕_ B (Algebra.at B q) (Algebra.at B r)) _ (absent p i l a m) (Algebra.plus-off B (Algebra.at B q) (Algebra.at B r) _ (absent q j l a m) (absent r k l a m))))
+
+      -- the leading monomial of a member has an involutive divisor
+      pub lead-divisor : (t : Code F × Mono N) (p : Typed) → Sorted (t ∷ p) → Span B T (Algebra.at B (t ∷ p)) → (k : ℕ) × Involutive D U k (t .1 .0)
+      lead-divisor t p s h =
+          let q = sorted-parts s in
+          let r = Sums.led B chart (span-sum h) (t .1)
+          (λ z. q .2 (sym (Algebra.at-top B (Beneath N O) (Typing.line F L N O Q) t p (q .0)) ∙ z))
+          (λ u l. Algebra.at-below B (Beneath N O) (Typing.line F L N O Q) (Algebra.more-below l (Algebra.below-up B (Beneath N O) (Typing.line F L N O Q) l (q .0)))) in
+          (r .k .0, subst (λ x. Involutive D U (r .k .0) (x .0)) (r .height) (involutive (r .k) (r .a) (r .mul)))
+
+      -- ---- copies of the rows whose leading monomials are minimal
+      abbrev pub leader : R → Mono N
+      leader k = lead (nth T (k .0))
+
+      abbrev pub Lowest : R → Type 0
+      Lowest k = (j : R) (a : Mono N) → leader k ≡ Monomials.mul (leader j) a → j .0 ≡ k .0
+
+      pub record Copy (P : List Typed) (k : R) : Type 0 where
+        pub poly : Typed
+        pub inside : Span B P (Algebra.at B poly)
+        pub monic : Monic poly
+        pub leads : lead poly ≡ leader k
+        pub span : Span B T (Algebra._⊕_ B (Algebra.at B (nth T (k .0))) (Algebra.⊖ B (Algebra.at B poly)))
+
+      record Lower (k : R) : Type 0 where
+        j : R
+        other : j .0 ≡ k .0 → ⊥
+        a : Mono N
+        is : leader k ≡ Monomials.mul (leader j) a
+
+      look : (k : R) (n : ℕ) → n ≤ length T → ((j : R) → j .0 ≤ n → (a : Mono N) → leader k ≡ Monomials.mul (leader j) a → j .0 ≡ k .0) ⊎ Lower k
+      look k zero h = inl (λ j l. absurd (omega arith))
+      look k (suc n) h = go (look k n (omega arith)) (cases-eq (suc n) (k .0)) (Monomials.divide (leader (suc n, (omega arith, h))) (leader k))
+        where
+          go : ((j : R) → j .0 ≤ n → (a : Mono N) → leader k ≡ Monomials.mul (leader j) a → j .0 ≡ k .0) ⊎ Lower k → (suc n ≡ k .0) ⊎ (suc n ≡ k .0 → ⊥) → Dec ((a : Mono N) × (leader k ≡ Monomials.mul (leader (suc n, (omega arith, h))) a)) →
+              ((j : R) → j .0 ≤ suc n → (a : Mono N) → leader k ≡ Monomials.mul (leader j) a → j .0 ≡ k .0) ⊎ Lower k
+          go (inr o) e d = inr o
+          go (inl f) (inl e) d = inl (λ j l a i. ⊎-elim (λ x. x ∙ e) (λ x. f j (omega arith) a i) (cases-eq (j .0) (suc n)))
+          go (inl f) (inr e) (yes d) = inr (record { j = (suc n, (omega arith, h)); other = e; a = d .0; is = d .1 })
+          go (inl f) (inr e) (no d) = inl (λ j l a i. ⊎-elim (λ x. absurd (d (a, i ∙ ap (λ y. Monomials.mul (lead (nth T y)) a) x))) (λ x. f j (omega arith) a i) (cases-eq (j .0) (suc n)))
+
+      pub regenerate : (P : List Typed) → ((k : R) → Lowest k → Copy P k) → (k : R) → Span B P (Algebra.at B (nth T (k .0)))
+      regenerate P copy = Sums.generated B chart (Span B P) (λ v e. Algebra.none e) (λ v w p q. Algebra.span-⊕ B p q) (λ c a v p. Algebra.span-shift B c a p) start
+        where
+          one-up : (a : Mono N) (j : R) → Algebra.shift B (B .𝟙) a (Algebra.at B (nth T (j .0))) (Monomials.mul (leader j) a) ≡ B .𝟙
+          one-up a j = ap (Algebra.shift B (B .𝟙) a (Algebra.at B (nth T (j .0)))) (Monomials.mul-comm (leader j) a) ∙ Sums.term-at B chart (B .𝟙) a j
+
+          member : (k : R) → List·Memᴰ (nth T (k .0)) T
+          member k = Typing.row-member F L N T (k .0 - 1) (omega arith)
+
+          start : (k : R) → ((j : R) → Beneath N O (leader j) (leader k) → Span B P (Algebra.at B (nth T (j .0)))) → Sums.Start B chart (Span B P) k
+          start k ih = go (look k (length T) (omega arith))
+            where
+              go : ((j : R) → j .0 ≤ length T → (a : Mono N) → leader k ≡ Monomials.mul (leader j) a → j .0 ≡ k .0) ⊎ Lower k → Sums.Start B chart (Span B P) k
+              go (inl f) =
+                  let c = copy k (λ j a e. f j (j .1 .1) a e) in
+                  record {
+                    value = Algebra.at B (c .poly);
+                    inside = c .inside;
+                    one-at = subst (λ x. Algebra.at B (c .poly) x ≡ B .𝟙) (c .leads) (monic-one (c .monic));
+                    top-at = λ m l. monic-top m (c .monic) (subst (λ x. Beneath N O x m) (sym (c .leads)) l);
+                    sum = span-sum (c .span);
+                  }
+              go (inr o) =
+                  let v : Algebra.V B = Algebra.shift B (B .𝟙) (o .a) (Algebra.at B (nth T (o .j .0))) in
+                  let e : Monomials.mul (o .a) (leader (o .j)) ≡ leader k = Monomials.mul-comm (o .a) (leader (o .j)) ∙ sym (o .is) in
+                  let l : Beneath N O (leader (o .j)) (leader k) = ⊎-elim (λ d. absurd (o .other (G .once (o .j .0) (k .0) (o .j .1) (k .1) (d ∙ e)))) (λ d. subst (Beneath N O (leader (o .j))) e d) (Sums.raise B chart (o .a) (leader (o .j))) in
+                  record {
+                    value = v;
+                    inside = Algebra.span-shift B (B .𝟙) (o .a) (ih (o .j) l);
+                    one-at = ap v (o .is) ∙ one-up (o .a) (o .j);
+                    top-at = λ m d. Sums.term-above B chart (B .𝟙) (o .a) (o .j) m (subst (λ x. Beneath N O x m) (sym e) d);
+                    sum = span-sum (Algebra.span-⊕ B (Algebra.span-gen B (member k)) (Algebra.span-⊖ B (Algebra.span-shift B (B .𝟙) (o .a) (Algebra.span-gen B (member (o .j))))));
+                  }
+
+      pub regenerate-all : (P : List Typed) → ((k : R) → Lowest k → Copy P k) → (g : Typed) → List·Memᴰ g T → Span B P (Algebra.at B g)
+      regenerate-all P copy g h =
+          let i = mem-index T h in
+          let k : R = (suc (i .0), omega arith) in
+          let d : g ≡ nth T (k .0) = i .2 ∙ ap (λ x. getD T x []) (omega arith) in
+          subst (λ x. Span B P (Algebra.at B x)) (sym d) (regenerate P copy k)

@@ -1,0 +1,390 @@
+-- From the lists of terms in specs/ to polynomials over the codes below q, and back.
+use mathlib.Core.Path.{_≡_, refl, sym, _∙_, ap, subst, fun-ext}
+use mathlib.Core.HLevel.{Σ-prop-path}
+use mathlib.Core.Bool.{true, false}
+use mathlib.Core.List.{List, [], _∷_, _++_, map, List·Memᴰ, List·Memᴰ·head, List·Memᴰ·tail, List·Memᴰ·cases-cons}
+use mathlib.Core.Logic.{_⊎_, inl, inr, ⊎-elim, _↔_}
+use Prim.Native.Nat.{ℕ, zero, suc, _-_, _<_}
+use Rattle.std.specs.declared.cmp.Ordering.{Ordering}
+use Rattle.std.specs.declared.cmp.Ordering.the-variants.{Less, Equal as Same, Greater}
+use native.Mathlib.Bridge.{le-prop}
+use native.Mathlib.Omega.{arith}
+use lib.ListN.{length, getD}
+use Rattle.std.proofs.shelf.Tests.{cond-true, cond-false}
+use Rattle.polynomial.specs.declared.term.Term.{Term}
+use Rattle.field.specs.Field.{FieldMeaning, FieldLaws}
+use Rattle.monomial.specs.Monomial.{In, Bounded}
+use Rattle.polynomial.specs.Check.{Fits, largest-exponent}
+use Rattle.involutive.specs.Value
+use Rattle.polynomial.specs.Polynomial.{Poly, term, exponents, Over, Falling, more as more-terms, Written}
+use Rattle.involutive.specs.Value.{Equal}
+use Rattle.monomial.specs.Order.{Compare, OrderLaws, Under}
+use Rattle.std.specs.Orderings.{reversed}
+use Rattle.monomial.specs.Division.{Split, Within}
+use Rattle.involutive.specs.Reduction.{multiple, Difference}
+use Rattle.involutive.specs.Ideal.{combination, Member, SameIdeal}
+use Rattle.involutive.proofs.Algebra
+use Rattle.involutive.proofs.Algebra.{Base, Span}
+use Rattle.involutive.proofs.Values
+use Rattle.involutive.proofs.Monomials
+use Rattle.involutive.proofs.Monomials.{Mono}
+
+abbrev pub Code : FieldMeaning → Type 0
+Code F = (c : ℕ) × (c < F .q)
+
+pub code-eq : {q : ℕ} {a b : (c : ℕ) × (c < q)} → a .0 ≡ b .0 → a ≡ b
+code-eq e = Σ-prop-path (λ c. le-prop) e
+
+pub positive : {F : FieldMeaning} → FieldLaws F → 0 < F .q
+positive L = omega (arith, L .differ)
+
+-- u stands below m
+abbrev pub Beneath : (N : ℕ) → Compare → Mono N → Mono N → Type 0
+Beneath N O u m = Under O (u .0) (m .0)
+
+abbrev pub base : {F : FieldMeaning} → FieldLaws F → ℕ → Base
+base {F} L N = record {
+  K = Code F;
+  𝟘 = (0, positive L);
+  𝟙 = (1, L .differ);
+  _+_ = λ a b. (F .add (a .0) (b .0), L .add-below (a .0) (b .0) (a .1) (b .1));
+  _*_ = λ a b. (F .mul (a .0) (b .0), L .mul-below (a .0) (b .0) (a .1) (b .1));
+  neg = λ a. (F .neg (a .0), L .neg-below (a .0) (a .1));
+  +-comm = λ a b. code-eq (L .add-comm (a .0) (b .0) (a .1) (b .1));
+  +-assoc = λ a b c. code-eq (L .add-assoc (a .0) (b .0) (c .0) (a .1) (b .1) (c .1));
+  0+ = λ a. code-eq (L .zero-neutral (a .0) (a .1));
+  +-neg = λ a. code-eq (L .negates (a .0) (a .1));
+  *-comm = λ a b. code-eq (L .mul-comm (a .0) (b .0) (a .1) (b .1));
+  *-assoc = λ a b c. code-eq (L .mul-assoc (a .0) (b .0) (c .0) (a .1) (b .1) (c .1));
+  1* = λ a. code-eq (L .one-neutral (a .0) (a .1));
+  *-+ = λ a b c. code-eq (L .distributes (a .0) (b .0) (c .0) (a .1) (b .1) (c .1));
+  M = Mono N;
+  one = Monomials.unit;
+  _·_ = Monomials.mul;
+  ·-comm = Monomials.mul-comm;
+  ·-assoc = Monomials.mul-assoc;
+  one· = Monomials.unit-mul;
+  cancel = Monomials.cancel;
+  same = Monomials.same?;
+  divide = Monomials.divide;
+}
+
+abbrev pub Nonzero : Poly → Type 0
+Nonzero f = (t : Term) → List·Memᴰ t f → 0 < t .coefficient
+
+module _ (F : FieldMeaning) (L : FieldLaws F) (N : ℕ) where
+  abbrev pub B : Base
+  B = base L N
+
+  abbrev pub Typed : Type 0
+  Typed = List (Code F × Mono N)
+
+  abbrev pub raw : Typed → Poly
+  raw [] = []
+  raw (t ∷ f) = term (t .0 .0) (t .1 .0) ∷ raw f
+
+  pub raw-++ : (f g : Typed) → raw (f ++ g) ≡ raw f ++ raw g
+  raw-++ [] g = refl
+  raw-++ (t ∷ f) g = ap {B = Poly} (λ r. term (t .0 .0) (t .1 .0) ∷ r) (raw-++ f g)
+
+  pub typed : (f : Poly) → Over F N f → (p : Typed) × (raw p ≡ f)
+  typed [] o = ([], refl)
+  typed (t ∷ f) o =
+      let r = typed f (λ s h. o s (List·Memᴰ·tail h)) in
+      let h = o t (List·Memᴰ·head refl) in
+      (((t .coefficient, h .0), (exponents t, h .1)) ∷ r .0, ap {B = Poly} (λ r. t ∷ r) (r .1))
+
+  pub raw-over : (p : Typed) → Over F N (raw p)
+  raw-over [] t h = elim h [ ]
+  raw-over (s ∷ p) t h = ⊎-elim (λ e. (rw e (s .0 .1), rw e (s .1 .1))) (λ k. raw-over p t k) (List·Memᴰ·cases-cons h)
+
+  pub raw-scaled : (c : Code F) (a : Mono N) (f : Typed) → raw (Algebra.scaled B c a f) ≡ Value.scaled F (c .0) (a .0) (raw f)
+  unfolding Algebra.scaled
+  raw-scaled c a [] = refl
+  raw-scaled c a (t ∷ f) = ap {B = Poly} (λ r. term (F .mul (c .0) (t .0 .0)) (Monomials.mul a (t .1) .0) ∷ r) (raw-scaled c a f)
+
+  pub raw-negated : (f : Typed) → raw (Algebra.negated B f) ≡ Value.negated F (raw f)
+  unfolding Algebra.negated
+  raw-negated [] = refl
+  raw-negated (t ∷ f) = ap {B = Poly} (λ r. term (F .neg (t .0 .0)) (t .1 .0) ∷ r) (raw-negated f)
+
+  pub raw-product : (f g : Typed) → raw (Algebra.product B f g) ≡ Value.product F (raw f) (raw g)
+  unfolding Algebra.product
+  raw-product [] g = refl
+  raw-product (t ∷ f) g = cc (raw-product f g, raw-++ (Algebra.scaled B (t .0) (t .1) g) (Algebra.product B f g), raw-scaled (t .0) (t .1) g)
+
+  pub raw-at : (f : Typed) (m : Mono N) → Value.at F (raw f) (m .0) ≡ Algebra.at B f m .0
+  unfolding Algebra.at Algebra.𝟎 Algebra._⊕_
+  raw-at [] m = refl
+  raw-at (t ∷ f) m = go (Monomials.same? (t .1) m) (raw-at f m)
+    where
+      go : Dec (t .1 ≡ m) → Value.at F (raw f) (m .0) ≡ Algebra.at B f m .0 → Value.at F (raw (t ∷ f)) (m .0) ≡ F .add (Algebra.single B (t .0) (t .1) m .0) (Algebra.at B f m .0)
+      go (yes e) h = cond-true _ _ _ (Monomials.same-yes (t .1) m e) ∙ cc (h, ap (λ c. c .0) (Algebra.single-at B (t .0) (t .1) m e))
+      go (no n) h = cond-false _ _ _ (Monomials.same-no (t .1) m n) ∙ cc (h, ap (λ c. c .0) (Algebra.single-off B (t .0) (t .1) m n), L .zero-neutral (Algebra.at B f m .0) (Algebra.at B f m .1))
+
+  pub raw-neg : (v : Algebra.V B) (m : Mono N) → Algebra.⊖ B v m .0 ≡ F .neg (v m .0)
+  unfolding Algebra.⊖
+  raw-neg v m = refl
+
+  -- lists of terms stand for the same polynomial where their values are the same
+  pub from-equal : (f g : Typed) → Equal F (raw f) (raw g) → Algebra.at B f ≡ Algebra.at B g
+  from-equal f g e = fun-ext (λ m. code-eq (sym (raw-at f m) ∙ e (m .0) ∙ raw-at g m))
+
+  pub to-equal : (f g : Typed) → Algebra.at B f ≡ Algebra.at B g → Equal F (raw f) (raw g)
+  to-equal f g e = Values.agree F (raw f) (raw g) (λ t h. inside (exponents t) (raw-over f t h .1)) (λ t h. inside (exponents t) (raw-over g t h .1))
+    where
+      inside : (m : List ℕ) → In N m → Value.at F (raw f) m ≡ Value.at F (raw g) m
+      inside m w = raw-at f (m, w) ∙ ap (λ v. v (m, w) .0) e ∙ sym (raw-at g (m, w))
+
+  pub same-value : (p q : Typed) → raw p ≡ raw q → Algebra.at B p ≡ Algebra.at B q
+  same-value p q e = from-equal p q (λ m. ap (λ x. Value.at F x m) e)
+
+  abbrev pub minus : Typed → Typed → Algebra.V B
+  minus p q = Algebra._⊕_ B (Algebra.at B p) (Algebra.⊖ B (Algebra.at B q))
+
+  -- ---- ideals
+  abbrev pub total : List Typed → List Typed → Algebra.V B
+  total [] gs = Algebra.𝟎 B
+  total (a ∷ more) [] = Algebra.𝟎 B
+  total (a ∷ more) (g ∷ gs) = Algebra._⊕_ B (Algebra.act B a (Algebra.at B g)) (total more gs)
+
+  -- a combination of typed polynomials by typed multipliers
+  pub combined : (xs gs : List Typed) → (c : Typed) × (raw c ≡ combination F (map raw xs) (map raw gs)) × (Algebra.at B c ≡ total xs gs)
+  unfolding Algebra.at
+  combined [] gs = ([], refl, refl)
+  combined (a ∷ more) [] = ([], refl, refl)
+  combined (a ∷ more) (g ∷ gs) =
+      let r = combined more gs in
+      (Algebra.product B a g ++ r .0, cc (raw-++ (Algebra.product B a g) (r .0), raw-product a g, r .1), cc (Algebra.at-++ B (Algebra.product B a g) (r .0), Algebra.at-product B a g, r .2))
+
+  pub typeds : (fs : List Poly) → ((a : Poly) → List·Memᴰ a fs → Over F N a) → (xs : List Typed) × (map raw xs ≡ fs)
+  typeds [] o = ([], refl)
+  typeds (f ∷ fs) o =
+      let p = typed f (o f (List·Memᴰ·head refl)) in
+      let r = typeds fs (λ a h. o a (List·Memᴰ·tail h)) in
+      (p .0 ∷ r .0, cc (p .1, r .1))
+
+  total-span : (xs gs : List Typed) → Span B gs (total xs gs)
+  total-span [] gs = Algebra.none refl
+  total-span (a ∷ more) [] = Algebra.none refl
+  total-span (a ∷ more) (g ∷ gs) = Algebra.span-⊕ B (Algebra.span-act B a (Algebra.span-gen B (List·Memᴰ·head refl))) (Algebra.span-trans B (λ x h. Algebra.span-gen B (List·Memᴰ·tail h)) (total-span more gs))
+
+  pub member-span : (gs : List Typed) (f : Typed) → Member F N (map raw gs) (raw f) → Span B gs (Algebra.at B f)
+  member-span gs f m =
+      let xs = typeds (m .multipliers) (m .over) in
+      let c = combined (xs .0) gs in
+      let e : Algebra.at B f ≡ Algebra.at B (c .0) = from-equal f (c .0) (rw (c .1, xs .1) (m .sum)) in
+      subst (Span B gs) (sym (e ∙ c .2)) (total-span (xs .0) gs)
+
+  record Factors (gs : List Typed) (v : Algebra.V B) : Type 0 where
+    list : List Typed
+    each : length list ≡ length gs
+    value : v ≡ total list gs
+
+  no-factors : (gs : List Typed) → Factors gs (Algebra.𝟎 B)
+  unfolding Algebra.act
+  no-factors [] = record { list = []; each = refl; value = refl }
+  no-factors (g ∷ gs) =
+      let r = no-factors gs in
+      record { list = [] ∷ r .list; each = ap suc (r .each); value = cc (r .value, Algebra.0⊕ B (Algebra.𝟎 B)) }
+
+  -- a term more at the place of g
+  one-more : (c : Code F) (a : Mono N) {g : Typed} {gs : List Typed} → List·Memᴰ g gs → (xs : List Typed) → length xs ≡ length gs → Factors gs (Algebra._⊕_ B (Algebra.shift B c a (Algebra.at B g)) (total xs gs))
+  unfolding Algebra.act
+  one-more c a (List·Memᴰ·head e) [] n = absurd (omega arith)
+  one-more c a (List·Memᴰ·tail h) [] n = absurd (omega arith)
+  one-more c a {g} (List·Memᴰ·head {x = x} {xs = gs} e) (y ∷ ys) n =
+      record { list = ((c, a) ∷ y) ∷ ys; each = n; value = ap (λ z. Algebra._⊕_ B (Algebra.shift B c a (Algebra.at B z)) (total (y ∷ ys) (x ∷ gs))) e ∙ sym (Algebra.⊕-assoc B _ _ _) }
+  one-more c a {g} (List·Memᴰ·tail {x = x} {xs = gs} h) (y ∷ ys) n =
+      let r = one-more c a h ys (omega arith) in
+      record { list = y ∷ r .list; each = ap suc (r .each); value = Algebra.⊕-left B _ _ _ ∙ ap (Algebra._⊕_ B (Algebra.act B y (Algebra.at B x))) (r .value) }
+
+  factors : {gs : List Typed} {v : Algebra.V B} → Span B gs v → Factors gs v
+  factors {gs} (Algebra.none e) = let r = no-factors gs in record { list = r .list; each = r .each; value = e ∙ r .value }
+  factors {gs} (Algebra.more {g = g} c a h p e) =
+      let r = factors p in
+      let s = one-more c a h (r .list) (r .each) in
+      record { list = s .list; each = s .each; value = e ∙ ap (Algebra._⊕_ B (Algebra.shift B c a (Algebra.at B g))) (r .value) ∙ s .value }
+
+  length-raws : (xs gs : List Typed) → length xs ≡ length gs → length (map raw xs) ≡ length (map raw gs)
+  length-raws [] [] e = refl
+  length-raws [] (g ∷ gs) e = absurd (omega arith)
+  length-raws (x ∷ xs) [] e = absurd (omega arith)
+  length-raws (x ∷ xs) (g ∷ gs) e = ap suc (length-raws xs gs (omega arith))
+
+  raws-over : (xs : List Typed) (f : Poly) → List·Memᴰ f (map raw xs) → Over F N f
+  raws-over [] f h = elim h [ ]
+  raws-over (x ∷ xs) f h = ⊎-elim (λ e. subst (Over F N) (sym e) (raw-over x)) (λ k. raws-over xs f k) (List·Memᴰ·cases-cons h)
+
+  pub span-member : (gs : List Typed) (f : Typed) → Span B gs (Algebra.at B f) → Member F N (map raw gs) (raw f)
+  span-member gs f p =
+      let r = factors p in
+      let c = combined (r .list) gs in
+      record {
+        multipliers = map raw (r .list);
+        each = length-raws (r .list) gs (r .each);
+        over = raws-over (r .list);
+        sum = rw (← (c .1)) (to-equal f (c .0) (r .value ∙ sym (c .2)));
+      }
+
+  pub same-ideal : (gs hs : List Typed) → ((g : Typed) → List·Memᴰ g gs → Span B hs (Algebra.at B g)) → ((h : Typed) → List·Memᴰ h hs → Span B gs (Algebra.at B h)) → SameIdeal F N (map raw gs) (map raw hs)
+  same-ideal gs hs p q f o =
+      let t = typed f o in
+      subst (λ x. Member F N (map raw gs) x ↔ Member F N (map raw hs) x) (t .1)
+      (λ m. span-member hs (t .0) (Algebra.span-trans B p (member-span gs (t .0) m)), λ m. span-member gs (t .0) (Algebra.span-trans B q (member-span hs (t .0) m)))
+
+  -- ---- one action
+  pub raw-row : (T : List Typed) (i : ℕ) → getD (map raw T) i [] ≡ raw (getD T i [])
+  raw-row [] i = refl
+  raw-row (p ∷ T) zero = refl
+  raw-row (p ∷ T) (suc i) = raw-row T i
+
+  pub row-member : (T : List Typed) (i : ℕ) → i < length T → List·Memᴰ (getD T i []) T
+  row-member [] i h = absurd (omega arith)
+  row-member (p ∷ T) zero h = List·Memᴰ·head refl
+  row-member (p ∷ T) (suc i) h = List·Memᴰ·tail (row-member T i (omega arith))
+
+  abbrev pub lead : Typed → Mono N
+  lead [] = Monomials.unit
+  lead (t ∷ f) = t .1
+
+  pub raw-lead : (p : Typed) → Value.leading (raw p) ≡ lead p .0
+  raw-lead [] = refl
+  raw-lead (t ∷ f) = refl
+
+  pub raw-minus : (f g : Typed) → raw (f ++ Algebra.negated B g) ≡ Value.minus F (raw f) (raw g)
+  raw-minus f g = raw-++ f (Algebra.negated B g) ∙ ap (λ x. raw f ++ x) (raw-negated g)
+
+  raw-multiple : (O : Compare) (D : Split) (T : List Typed) (t : Code F × Mono N) (k : ℕ) → multiple F O D N (map raw T) (term (t .0 .0) (t .1 .0)) k ≡ raw (Algebra.scaled B (t .0) (Monomials.over (t .1) (lead (getD T (k - 1) []))) (getD T (k - 1) []))
+  raw-multiple O D T t k = rw (raw-row T (k - 1), raw-lead (getD T (k - 1) [])) (sym (raw-scaled (t .0) (Monomials.over (t .1) (lead (getD T (k - 1) []))) (getD T (k - 1) [])))
+
+  pub action-value : (O : Compare) (D : Split) (T : List Typed) (h g : Typed) (t : Code F × Mono N) (k : ℕ) → Difference F O D N (map raw T) (raw h) (multiple F O D N (map raw T) (term (t .0 .0) (t .1 .0)) k) (raw g) →
+      Algebra.at B g ≡ Algebra._⊕_ B (Algebra.at B h) (Algebra.⊖ B (Algebra.shift B (t .0) (Monomials.over (t .1) (lead (getD T (k - 1) []))) (Algebra.at B (getD T (k - 1) []))))
+  action-value O D T h g t k d =
+      let r : Typed = getD T (k - 1) [] in
+      let a : Mono N = Monomials.over (t .1) (lead r) in
+      let s : Typed = Algebra.scaled B (t .0) a r in
+      let e : Algebra.at B g ≡ Algebra.at B (h ++ Algebra.negated B s) = from-equal g (h ++ Algebra.negated B s) (rw (raw-minus h s, ← (raw-multiple O D T t k)) (d .value)) in
+      e ∙ Algebra.at-++ B h (Algebra.negated B s) ∙ ap (Algebra._⊕_ B (Algebra.at B h)) (Algebra.at-negated B s ∙ ap (Algebra.⊖ B) (Algebra.at-scaled B (t .0) a r))
+
+  pub action : (O : Compare) (D : Split) (T : List Typed) (h g : Typed) (t : Code F × Mono N) (k : ℕ) → Within k (length T) → Difference F O D N (map raw T) (raw h) (multiple F O D N (map raw T) (term (t .0 .0) (t .1 .0)) k) (raw g) → Span B T (Algebra._⊕_ B (Algebra.at B h) (Algebra.⊖ B (Algebra.at B g)))
+  action O D T h g t k w d =
+      Algebra.span-action B (t .0) (Monomials.over (t .1) (lead (getD T (k - 1) []))) (Algebra.at B h) (Algebra.at B g) (row-member T (k - 1) (omega arith)) (action-value O D T h g t k d)
+
+  pub raw-term : (p : Typed) {t : Term} → List·Memᴰ t (raw p) → (u : Code F × Mono N) × List·Memᴰ u p × (t ≡ term (u .0 .0) (u .1 .0))
+  raw-term [] h = elim h [ ]
+  raw-term (u ∷ p) h = ⊎-elim (λ e. (u, List·Memᴰ·head refl, e)) (λ k. let r = raw-term p k in (r .0, List·Memᴰ·tail (r .1), r .2)) (List·Memᴰ·cases-cons h)
+
+  -- ---- a row divided by its leading coefficient
+  pub record Inverse (c : Code F) : Type 0 where
+    pub code : Code F
+    pub is : code .0 ≡ F .inv (c .0)
+    pub unit : B ._*_ c code ≡ B .𝟙
+    pub pos : 0 < code .0
+
+  pub unit-pos : (c d : Code F) → B ._*_ c d ≡ B .𝟙 → 0 < d .0
+  unit-pos c d e = go (d .0) refl
+    where
+      go : (n : ℕ) → d .0 ≡ n → 0 < n
+      go (suc n) h = omega arith
+      go zero h = let z : _≡_ {A = ℕ} 0 1 = ap (λ x. x .0) (sym (ap (B ._*_ c) (code-eq h) ∙ Algebra.*0 B c) ∙ e) in absurd (omega arith)
+
+  pub inverse : (c : Code F) → 0 < c .0 → Inverse c
+  inverse c h =
+      let d : Code F = (F .inv (c .0), L .inv-below (c .0) h (c .1)) in
+      let e : B ._*_ c d ≡ B .𝟙 = code-eq (L .inverts (c .0) h (c .1)) in
+      record { code = d; is = refl; unit = e; pos = unit-pos c d e }
+
+  product-pos : (c b : Code F) → 0 < c .0 → 0 < b .0 → 0 < B ._*_ c b .0
+  product-pos c b h k = go (B ._*_ c b .0) refl
+    where
+      go : (n : ℕ) → B ._*_ c b .0 ≡ n → 0 < n
+      go (suc n) e = omega arith
+      go zero e = let i = inverse c h in let z : b .0 ≡ 0 = ap (λ x. x .0) (Algebra.no-divisors B c (i .code) b (i .unit) (code-eq e)) in omega arith
+
+  pub nonzero-scaled : (c : Code F) (a : Mono N) (p : Typed) → 0 < c .0 → Nonzero (raw p) → Nonzero (raw (Algebra.scaled B c a p))
+  unfolding Algebra.scaled
+  nonzero-scaled c a [] h n t m = elim m [ ]
+  nonzero-scaled c a (s ∷ p) h n t m = ⊎-elim (λ e. rw e (product-pos c (s .0) h (n _ (List·Memᴰ·head refl)))) (λ k. nonzero-scaled c a p h (λ x k. n x (List·Memᴰ·tail k)) t k) (List·Memᴰ·cases-cons m)
+
+  -- ---- written lists
+  module _ (O : Compare) (Q : OrderLaws O) where
+    pub under-irr : (u : Mono N) → Beneath N O u u → ⊥
+    under-irr u h = let z : Less ≡ Same = sym h ∙ Q .equal (u .0) (u .0) (u .1 .wide) (u .1 .wide) .1 refl in let y : _≡_ {A = ℕ} 0 1 = cc in omega arith
+
+    pub under-tri : (u m : Mono N) → Beneath N O u m ⊎ ((u ≡ m) ⊎ Beneath N O m u)
+    under-tri u m = go (O (u .0) (m .0)) refl
+      where
+        go : (o : Ordering) → O (u .0) (m .0) ≡ o → Beneath N O u m ⊎ ((u ≡ m) ⊎ Beneath N O m u)
+        go Less e = inl e
+        go Same e = inr (inl (Monomials.mono-eq (Q .equal (u .0) (m .0) (u .1 .wide) (m .1 .wide) .0 e)))
+        go Greater e = inr (inr (Q .total (u .0) (m .0) (u .1 .wide) (m .1 .wide) ∙ ap reversed e))
+
+    pub under-trans : (u v m : Mono N) → Beneath N O u v → Beneath N O v m → Beneath N O u m
+    under-trans u v m h k = Q .transitive (u .0) (v .0) (m .0) (u .1 .wide) (v .1 .wide) (m .1 .wide) h k
+
+    abbrev pub line : Algebra.Line B (Beneath N O)
+    line = record { tri = under-tri; trans = under-trans; irr = under-irr }
+
+    not-zero : (c : Code F) → 0 < c .0 → c ≡ B .𝟘 → ⊥
+    not-zero c h e = let z : c .0 ≡ 0 = ap (λ x. x .0) e in omega arith
+
+    falling-parts : {t s : Term} {f : Poly} → Falling O (t ∷ s ∷ f) → Under O (exponents s) (exponents t) × Falling O (s ∷ f)
+    falling-parts (more-terms h f) = (h, f)
+
+    sorted : (t : Code F × Mono N) (f : Typed) → Falling O (raw (t ∷ f)) → ((s : Term) → List·Memᴰ s (raw (t ∷ f)) → 0 < s .coefficient) → Algebra.Sorted B (Beneath N O) (t ∷ f)
+    sorted t [] h n = Algebra.more-sorted (not-zero (t .0) (n _ (List·Memᴰ·head refl))) Algebra.none-below Algebra.none-sorted
+    sorted t (s ∷ f) h n = go (sorted s f (falling-parts h .1) (λ x k. n x (List·Memᴰ·tail k)))
+      where
+        go : Algebra.Sorted B (Beneath N O) (s ∷ f) → Algebra.Sorted B (Beneath N O) (t ∷ s ∷ f)
+        go (Algebra.more-sorted z b r) = Algebra.more-sorted (not-zero (t .0) (n _ (List·Memᴰ·head refl))) (Algebra.more-below (falling-parts h .0) (Algebra.below-up B (Beneath N O) line (falling-parts h .0) b)) (Algebra.more-sorted z b r)
+
+    pub written-sorted : (f : Typed) → Written F O N (raw f) → Algebra.Sorted B (Beneath N O) f
+    written-sorted [] w = Algebra.none-sorted
+    written-sorted (t ∷ f) w = sorted t f (w .falling) (w .nonzero)
+
+    falls : (t : Code F × Mono N) (f : Typed) → Algebra.Below B (Beneath N O) (t .1) f → Falling O (raw f) → Falling O (raw (t ∷ f))
+    falls t [] b r = Rattle.polynomial.specs.Polynomial.single
+    falls t (s ∷ f) (Algebra.more-below h b) r = more-terms h r
+
+    sorted-nonzero : {f : Typed} → Algebra.Sorted B (Beneath N O) f → (t : Term) → List·Memᴰ t (raw f) → 0 < t .coefficient
+    sorted-nonzero Algebra.none-sorted t h = elim h [ ]
+    sorted-nonzero (Algebra.more-sorted {t = s} z b r) t h = ⊎-elim (λ e. subst (λ x. 0 < x .coefficient) (sym e) (positive-code (s .0) z)) (λ k. sorted-nonzero r t k) (List·Memᴰ·cases-cons h)
+      where
+        positive-code : (c : Code F) → (c ≡ B .𝟘 → ⊥) → 0 < c .0
+        positive-code (zero, h) n = absurd (n (code-eq refl))
+        positive-code (suc c, h) n = omega arith
+
+    sorted-falling : {f : Typed} → Algebra.Sorted B (Beneath N O) f → Falling O (raw f)
+    sorted-falling Algebra.none-sorted = Rattle.polynomial.specs.Polynomial.none
+    sorted-falling (Algebra.more-sorted {t = t} {f = f} z b r) = falls t f b (sorted-falling r)
+
+    pub sorted-written : (f : Typed) → Algebra.Sorted B (Beneath N O) f → Written F O N (raw f)
+    sorted-written f s = record { over = raw-over f; nonzero = sorted-nonzero s; falling = sorted-falling s }
+
+    -- there is one way to write a polynomial down
+    pub written-eq : (f g : Poly) → Written F O N f → Written F O N g → Equal F f g → f ≡ g
+    written-eq f g v w e =
+        let p = typed f (v .over) in
+        let q = typed g (w .over) in
+        let s = written-sorted (p .0) (rw (p .1) v) in
+        let r = written-sorted (q .0) (rw (q .1) w) in
+        sym (p .1) ∙ ap raw (Algebra.sorted-eq B (Beneath N O) line s r (from-equal (p .0) (q .0) (rw (p .1, q .1) e))) ∙ q .1
+
+    -- a term of a written polynomial is the coefficient there
+    pub written-at : (h : Poly) → Written F O N h → (t : Term) → List·Memᴰ t h → Value.at F h (exponents t) ≡ t .coefficient
+    written-at h w t m =
+        let p = typed h (w .over) in
+        let u = raw-term (p .0) {t = t} (rw (p .1) m) in
+        let s = Algebra.sorted-at B (Beneath N O) line (u .0) (written-sorted (p .0) (rw (p .1) w)) (u .1) in
+        subst (λ x. Value.at F h (exponents x) ≡ x .coefficient) (sym (u .2)) (subst (λ x. Value.at F x (u .0 .1 .0) ≡ u .0 .0 .0) (p .1) (raw-at (p .0) (u .0 .1) ∙ ap (λ c. c .0) (s .0)))
+
+    pub one-term : (h : Poly) → Written F O N h → (t s : Term) → List·Memᴰ t h → List·Memᴰ s h → exponents t ≡ exponents s → t ≡ s
+    one-term h w t s m n e = let c : t .coefficient ≡ s .coefficient = sym (written-at h w t m) ∙ ap (Value.at F h) e ∙ written-at h w s n in λ i. record { coefficient = c i; monomial = record { exponents = e i } }
+
+    -- a term of a written difference stands in one of the two
+    pub fits-difference : (D : Split) (T : List Poly) (h f g : Poly) → Difference F O D N T h f g → Fits h → Fits f → Fits g
+    fits-difference D T h f g d a b t m = ⊎-elim
+        (λ r. subst (Bounded largest-exponent) (r .is) (Values.fits-minus F h f a b (r .by) (r .stands)))
+        (λ z. absurd (omega (arith, d .written .nonzero t m, sym (written-at g (d .written) t m) ∙ d .value (exponents t) ∙ z)))
+        (Values.occurs F (Value.minus F h f) (exponents t))
