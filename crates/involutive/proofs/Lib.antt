@@ -17,3 +17,6 @@ pub mod EqualCopies
 pub mod Completeness
 pub mod Verdicts
 pub mod OneAnswer
+pub mod Evaluate
+pub mod WorkedFacts
+pub mod Examples

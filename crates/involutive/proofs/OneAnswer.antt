@@ -28,6 +28,7 @@ use Rattle.polynomial.specs.declared.refusal.Refusal.{Refusal as Fault}
 use Rattle.involutive.specs.Answers.{first-fault, fault-refusal, ReducesTo, Adds, Steps, Remains, Shows, FairCopies, Judges, front, Answer, Selection, Copies, Copied, copies, copy-refused}
 use Rattle.polynomial.specs.Bytes.{copy-bytes}
 use Rattle.involutive.specs.Log.{Call, After, made, added, not-added, stepped, reduced, shown, copied, judged}
+use Rattle.involutive.specs.Once.{One-answer-each, One-state}
 use Rattle.involutive.proofs.Algebra
 use Rattle.involutive.proofs.Monomials
 use Rattle.involutive.proofs.Monomials.{Mono}
@@ -83,6 +84,9 @@ module _ (F : FieldMeaning) (L : FieldLaws F) (N : ℕ) (O : Compare) (Q : Order
     reduces-one (acts {h = h} r f x l q) w (wide r′ f′) = let e = one-action h w _ _ _ _ r r′ in absurd (f′ (subst₂ (λ t k. Fits (multiple F O D N T t k)) (e .0) (e .1) f))
     reduces-one (acts {h = h} {g = g} {t = t} {k = k} r f x l q) w (long {g = g′} {t = t′} {k = k′} r′ f′ x′ l′) = let e = one-difference h w t t′ k k′ r r′ g g′ x x′ in absurd (omega (arith, ap length e))
     reduces-one {room} {h} {o} {o′} (acts {g = g} {t = t} {k = k} r f x l q) w (acts {g = g′} {t = t′} {k = k′} r′ f′ x′ l′ q′) = let e = one-difference h w t t′ k k′ r r′ g g′ x x′ in reduces-one q (x .written) (subst (λ g. Reduces F O D N T room g o′) (sym e) q′)
+
+parts : {A B : Type 0} {x y : A × B} → x ≡ y → (x .0 ≡ y .0) × (x .1 ≡ y .1)
+parts e = (ap (λ x. x .0) e, ap (λ x. x .1) e)
 
 -- ---- the calls, on a sound state
 some-is : {q q′ : Fault} {o : Option Fault} → o ≡ Some q → o ≡ Some q′ → q ≡ q′
@@ -341,3 +345,17 @@ module _ (S : Setting) (W : Lawful S) where
   after-one (shown a h) (shown b k) = after-one a b
   after-one (copied a h) (copied b k) = after-one a b
   after-one (judged a h) (judged b k) = after-one a b
+
+pub one-answer : One-answer-each
+one-answer S W s I = record {
+  reduces = λ room h o p w a b. reduced-one S W s I w a b;
+  adds = λ f a b s₁ s₂ p q. parts (adds-one S W s I p q);
+  steps = λ a b s₁ s₂ p q. parts (steps-one S W s I p q);
+  remains = λ f out a b out₁ out₂ p q. parts (remains-one S W s I p q);
+  shows = λ k out a b out₁ out₂ p q. parts (shows-one S W s I p q);
+  fair-copies = λ out a b out₁ out₂ p q. parts (fair-copies-one S W s I p q);
+  judges = λ a b p q. judges-one S W s I p q;
+}
+
+pub one-state : One-state
+one-state S W calls s₁ s₂ gs₁ gs₂ a b = parts (after-one S W a b)

@@ -30,7 +30,7 @@ use Rattle.involutive.proofs.Typing
 use Rattle.involutive.proofs.Typing.{Code, Nonzero}
 use Rattle.involutive.proofs.Ideals
 use Rattle.involutive.proofs.Values
-use Rattle.involutive.specs.Sound.{Row, Sound}
+use Rattle.involutive.specs.Sound.{Row, Sound, Soundness-kept}
 use Rattle.involutive.proofs.Lists
 
 pub lead-at : (T : Table) (i : ℕ) → i < length T → getD (map leading T) i [] ≡ leading (getD T i [])
@@ -262,3 +262,6 @@ module _ (S : Setting) (W : Lawful S) where
 
       led : (k : ℕ) → Within k (length (s .rows)) → member (leaders (s .rows)) k ≡ leading (row (s .rows) k)
       led k w = lead-at (s .rows) (k - 1) (omega arith)
+
+pub soundness-kept : Soundness-kept
+soundness-kept S W calls s gs a = sound S W a

@@ -38,7 +38,7 @@ module _ (S : Setting) (W : Lawful S) where
   abbrev L : FieldLaws F
   L = W .field
 
-  unit-written : Written F O N unit
+  pub unit-written : Written F O N unit
   unit-written = record {
     over = λ t h. ⊎-elim (λ e. rw e (L .differ, Monomials.in-one)) (λ k. elim k [ ]) (List·Memᴰ·cases-cons h);
     nonzero = λ t h. ⊎-elim (λ e. rw e (omega arith)) (λ k. elim k [ ]) (List·Memᴰ·cases-cons h);

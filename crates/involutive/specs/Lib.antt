@@ -8,3 +8,4 @@ pub mod Sound
 pub mod Once
 pub mod Complete
 pub mod Facts
+pub mod Examples
