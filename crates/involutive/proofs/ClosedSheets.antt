@@ -12,7 +12,7 @@ use Rattle.monomial.specs.Monomial.{variable, Divides}
 use Rattle.monomial.specs.Order.{Compare}
 use Rattle.monomial.specs.Division.{Split, Within, Involutive, member}
 use Rattle.involutive.specs.Value
-use Rattle.polynomial.specs.Polynomial.{Poly, Over, exponents, Written}
+use Rattle.polynomial.specs.Polynomial.{Poly, exponents, Written}
 use Rattle.involutive.specs.Value.{leading}
 use Rattle.involutive.specs.Ideal.{Member, SameIdeal}
 use Rattle.involutive.specs.Reduction.{Table, row, leaders, left, Irreducible, Reduces}
@@ -28,7 +28,6 @@ use Rattle.involutive.proofs.Typing.{base}
 use Rattle.involutive.proofs.Ideals
 use Rattle.involutive.proofs.Copying.{CopyOf, Beside, beside, copy-from, copy-to}
 use Rattle.involutive.specs.Sound.{Row, Sound}
-use Rattle.involutive.proofs.Soundness
 use Rattle.involutive.proofs.Tables
 
 module _ (S : Setting) (W : Lawful S) where

@@ -21,7 +21,6 @@ use Rattle.polynomial.specs.Bytes.{copy-bytes}
 use Rattle.involutive.specs.Complete.{GrantedCopy, under-division, Copies-decide}
 use Rattle.involutive.proofs.Lists
 use Rattle.involutive.proofs.Monomials
-use Rattle.involutive.proofs.Monomials.{Mono}
 use Rattle.involutive.proofs.Ideals
 use Rattle.involutive.proofs.Bytes
 use Rattle.involutive.proofs.Copying.{CopyOf, Beside, no-more, one-more, beside, copy-from, copy-to}

@@ -1,7 +1,7 @@
 -- Every call has at most one answer.
 use mathlib.Core.Path.{_≡_, refl, sym, _∙_, ap, subst, subst₂}
 use mathlib.Core.Bool.{true, cond, false}
-use mathlib.Core.List.{List, [], _∷_, _++_, List·Memᴰ}
+use mathlib.Core.List.{List, [], _∷_, _++_}
 use mathlib.Core.Logic.{_⊎_, inl, inr, ⊎-elim}
 use Prim.Native.Nat.{ℕ, suc, _-_, _≤_}
 use native.Mathlib.Omega.{arith}
@@ -14,7 +14,7 @@ use Rattle.std.specs.declared.option.Option.{Option}
 use Rattle.std.specs.declared.option.Option.the-variants.{Some, None}
 use Rattle.polynomial.specs.declared.term.Term.{Term}
 use Rattle.field.specs.Field.{FieldMeaning, FieldLaws}
-use Rattle.monomial.specs.Monomial.{In, Wide, width, one, variable, times}
+use Rattle.monomial.specs.Monomial.{In, Wide, width, variable, times}
 use Rattle.monomial.specs.Order.{Compare, OrderLaws, Under}
 use Rattle.monomial.specs.Division.{Split, DivisionLaws, Distinct, Within, Involutive}
 use Rattle.involutive.specs.Value
@@ -29,7 +29,6 @@ use Rattle.involutive.specs.Answers.{first-fault, fault-refusal, ReducesTo, Ad
 use Rattle.polynomial.specs.Bytes.{copy-bytes}
 use Rattle.involutive.specs.Log.{Call, After, made, added, not-added, stepped, reduced, shown, copied, judged}
 use Rattle.involutive.specs.Once.{One-answer-each, One-state}
-use Rattle.involutive.proofs.Algebra
 use Rattle.involutive.proofs.Monomials
 use Rattle.involutive.proofs.Monomials.{Mono}
 use Rattle.involutive.proofs.Typing

@@ -1,6 +1,6 @@
 -- The invariant of a log: rows are written and monic, their leading monomials differ, and every marked pair reduces to nothing.
 use mathlib.Core.Path.{_≡_, refl, sym, _∙_, ap, subst, subst₂}
-use mathlib.Core.Bool.{true, false, _&&_}
+use mathlib.Core.Bool.{false, _&&_}
 use mathlib.Core.List.{List, [], _∷_, _++_, map, List·Memᴰ, List·Memᴰ·head, List·Memᴰ·tail, List·Memᴰ·cases-cons}
 use mathlib.Core.Logic.{_⊎_, inl, inr, ⊎-elim}
 use Prim.Native.Nat.{ℕ, zero, suc, _-_, _≤_, _<_}
@@ -25,7 +25,6 @@ use Rattle.polynomial.specs.Check.{Fits, Acceptable, most-terms, largest-expone
 use Rattle.involutive.specs.Log.{Call, After, added, not-added, stepped, reduced, shown, copied, judged, made}
 use Rattle.polynomial.proofs.Checking.{acceptable-from}
 use Rattle.involutive.proofs.Monomials
-use Rattle.involutive.proofs.Monomials.{Mono}
 use Rattle.involutive.proofs.Typing
 use Rattle.involutive.proofs.Typing.{Code, Nonzero}
 use Rattle.involutive.proofs.Ideals

@@ -1,5 +1,5 @@
 -- The verdict of a closed sheet: 1 is a member where a row's leading monomial is 1.
-use mathlib.Core.Path.{_≡_, refl, sym, _∙_, ap, subst}
+use mathlib.Core.Path.{_≡_, refl, subst}
 use mathlib.Core.List.{List, [], _∷_, List·Memᴰ, List·Memᴰ·head, List·Memᴰ·tail, List·Memᴰ·cases-cons}
 use mathlib.Core.Logic.{⊎-elim, _↔_}
 use Prim.Native.Nat.{ℕ, suc, _-_, _≤_}
@@ -10,7 +10,7 @@ use Rattle.field.specs.Field.{FieldMeaning, FieldLaws}
 use Rattle.monomial.specs.Monomial.{In, Wide, one, Divides}
 use Rattle.monomial.specs.Order.{Compare, Under}
 use Rattle.monomial.specs.Division.{Within}
-use Rattle.polynomial.specs.Polynomial.{Poly, Over, term, exponents, Written, Falling, single, more}
+use Rattle.polynomial.specs.Polynomial.{Poly, term, exponents, Written, Falling, single, more}
 use Rattle.involutive.specs.Value.{leading, unit}
 use Rattle.involutive.specs.Ideal.{Member}
 use Rattle.involutive.specs.Reduction.{row}

@@ -1,6 +1,5 @@
 -- Reducing a polynomial by a table, one action at a time, and where an action is denied.
-use mathlib.Core.Path.{_≡_}
-use mathlib.Core.List.{List, [], _∷_, map, List·Memᴰ}
+use mathlib.Core.List.{List, [], map, List·Memᴰ}
 use Prim.Native.Nat.{ℕ, _-_, _≤_, _<_}
 use lib.ListN.{length, getD}
 use Rattle.field.specs.Field.{FieldMeaning}
