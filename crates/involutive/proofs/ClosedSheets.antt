@@ -44,10 +44,10 @@ module _ (S : Setting) (W : Lawful S) where
   O = S .order
 
   abbrev pub Typed : Type 0
-  Typed = Typing.Typed F L N
+  Typed = Typing.Typed S W
 
   abbrev pub raw : Typed → Poly
-  raw = Typing.raw F L N
+  raw = Typing.raw S W
 
   abbrev pub B : Base
   B = base L N
@@ -60,18 +60,18 @@ module _ (S : Setting) (W : Lawful S) where
   mem-raw (x ∷ T) (List·Memᴰ·head e) = List·Memᴰ·head (ap raw e)
   mem-raw (x ∷ T) (List·Memᴰ·tail h) = List·Memᴰ·tail (mem-raw T h)
 
-  pub typed-monic : (p : Typed) → Row S (raw p) → Tables.Monic F L N O (W .order) p
+  pub typed-monic : (p : Typed) → Row S (raw p) → Tables.Monic S W p
   typed-monic [] r = absurd (omega (arith, r .monic))
-  typed-monic (u ∷ p) r = record { head = u; tail = p; is = refl; one = Typing.code-eq (r .monic); sorted = Typing.written-sorted F L N O (W .order) (u ∷ p) (r .acceptable .written) }
+  typed-monic (u ∷ p) r = record { head = u; tail = p; is = refl; one = Typing.code-eq (r .monic); sorted = Typing.written-sorted S W (u ∷ p) (r .acceptable .written) }
 
-  pub typed-good : (T : List Typed) (m : ℕ → ℕ → Bool) → Sound S (st (map raw T) m) → Tables.Good F L N O (W .order) T
+  pub typed-good : (T : List Typed) (m : ℕ → ℕ → Bool) → Sound S (st (map raw T) m) → Tables.Good S W T
   typed-good T m I = record {
     monic = λ p h. typed-monic p (I .each (raw p) (mem-raw T h));
     once = λ j k w v e. I .once j k (rw (length-map T raw) w) (rw (length-map T raw) v) (led j ∙ ap (λ x. x .0) e ∙ sym (led k));
   }
     where
-      led : (k : ℕ) → leading (row (map raw T) k) ≡ Typing.lead F L N (getD T (k - 1) []) .0
-      led k = ap leading (Typing.raw-row F L N T (k - 1)) ∙ Typing.raw-lead F L N (getD T (k - 1) [])
+      led : (k : ℕ) → leading (row (map raw T) k) ≡ Typing.lead S W (getD T (k - 1) []) .0
+      led k = ap leading (Typing.raw-row S W T (k - 1)) ∙ Typing.raw-lead S W (getD T (k - 1) [])
 
   abbrev D : Split
   D = S .division
@@ -81,23 +81,23 @@ module _ (S : Setting) (W : Lawful S) where
   closing T m I c k u x y d = let p : Pair S (st (map raw T) m) k u = record { at-row = rw (length-map T raw) x; at-variable = y; not-multiplicative = d } in (most-terms, I .marked k u p (c k u p))
 
   -- irreducible polynomials that differ by what the rows span are the same
-  core′ : (T : List Typed) (m : ℕ → ℕ → Bool) → Sound S (st (map raw T) m) → Closed S (st (map raw T) m) → (p q : Typed) → Written F O N (raw p) → Written F O N (raw q) → Irreducible F O (S .division) N (map raw T) (raw p) → Irreducible F O (S .division) N (map raw T) (raw q) → Span B T (Typing.minus F L N p q) → p ≡ q
-  core′ T m I c p q w v i j h = Tables.one-remainder F L N O (W .order) (W .variables) (S .division) (W .division) T (typed-good T m I) (closing T m I c)
-      p q (Typing.written-sorted F L N O (W .order) p w) (Typing.written-sorted F L N O (W .order) q v) i j h
+  core′ : (T : List Typed) (m : ℕ → ℕ → Bool) → Sound S (st (map raw T) m) → Closed S (st (map raw T) m) → (p q : Typed) → Written F O N (raw p) → Written F O N (raw q) → Irreducible F O (S .division) N (map raw T) (raw p) → Irreducible F O (S .division) N (map raw T) (raw q) → Span B T (Typing.minus S W p q) → p ≡ q
+  core′ T m I c p q w v i j h = Tables.one-remainder S W T (typed-good T m I) (closing T m I c)
+      p q (Typing.written-sorted S W p w) (Typing.written-sorted S W q v) i j h
 
-  pub core : (R : Table) (m : ℕ → ℕ → Bool) → Sound S (st R m) → Closed S (st R m) → (T : List Typed) → map raw T ≡ R → (p q : Typed) → Written F O N (raw p) → Written F O N (raw q) → Irreducible F O (S .division) N R (raw p) → Irreducible F O (S .division) N R (raw q) → Span B T (Typing.minus F L N p q) → p ≡ q
-  core R m I c T e = subst (λ R. Sound S (st R m) → Closed S (st R m) → (p q : Typed) → Written F O N (raw p) → Written F O N (raw q) → Irreducible F O (S .division) N R (raw p) → Irreducible F O (S .division) N R (raw q) → Span B T (Typing.minus F L N p q) → p ≡ q) e (core′ T m) I c
+  pub core : (R : Table) (m : ℕ → ℕ → Bool) → Sound S (st R m) → Closed S (st R m) → (T : List Typed) → map raw T ≡ R → (p q : Typed) → Written F O N (raw p) → Written F O N (raw q) → Irreducible F O (S .division) N R (raw p) → Irreducible F O (S .division) N R (raw q) → Span B T (Typing.minus S W p q) → p ≡ q
+  core R m I c T e = subst (λ R. Sound S (st R m) → Closed S (st R m) → (p q : Typed) → Written F O N (raw p) → Written F O N (raw q) → Irreducible F O (S .division) N R (raw p) → Irreducible F O (S .division) N R (raw q) → Span B T (Typing.minus S W p q) → p ≡ q) e (core′ T m) I c
 
   -- and one that differs so from a sum of two has the sum's value
   pub core-sum : (R : Table) (m : ℕ → ℕ → Bool) → Sound S (st R m) → Closed S (st R m) → (T : List Typed) → map raw T ≡ R → (p q r : Typed) → Irreducible F O (S .division) N R (raw p) → Irreducible F O (S .division) N R (raw q) → Irreducible F O (S .division) N R (raw r) → Span B T (Algebra._⊕_ B (Algebra.at B p) (Algebra.⊖ B (Algebra._⊕_ B (Algebra.at B q) (Algebra.at B r)))) → Algebra.at B p ≡ Algebra._⊕_ B (Algebra.at B q) (Algebra.at B r)
   core-sum R m I c T e = subst (λ R. Sound S (st R m) → Closed S (st R m) → (p q r : Typed) → Irreducible F O (S .division) N R (raw p) → Irreducible F O (S .division) N R (raw q) → Irreducible F O (S .division) N R (raw r) → Span B T (Algebra._⊕_ B (Algebra.at B p) (Algebra.⊖ B (Algebra._⊕_ B (Algebra.at B q) (Algebra.at B r)))) → Algebra.at B p ≡ Algebra._⊕_ B (Algebra.at B q) (Algebra.at B r)) e
-      (λ I c. Tables.sum-remainder F L N O (W .order) (W .variables) (S .division) (W .division) T (typed-good T m I) (closing T m I c)) I c
+      (λ I c. Tables.sum-remainder S W T (typed-good T m I) (closing T m I c)) I c
 
   -- ---- the same, of lists of terms
   -- the rows of a sound state are typed
   pub on-sound : (s : State) → Sound S s → (Q : Table → Type 0) → ((T : List Typed) → Sound S (st (map raw T) (s .marks)) → Q (map raw T)) → Q (s .rows)
   on-sound s I Q h =
-      let x = Typing.typeds F L N (s .rows) (λ p m. I .each p m .acceptable .written .over) in
+      let x = Typing.typeds S W (s .rows) (λ p m. I .each p m .acceptable .written .over) in
       subst (λ R. Sound S (st R (s .marks)) → Q R) (x .1) (h (x .0)) I
 
   pub on-typed : (s : State) → Sound S s → Closed S s → (Q : Table → Type 0) → ((T : List Typed) → Sound S (st (map raw T) (s .marks)) → Closed S (st (map raw T) (s .marks)) → Q (map raw T)) → Q (s .rows)
@@ -106,35 +106,35 @@ module _ (S : Setting) (W : Lawful S) where
   -- the leading monomial of a member has an involutive divisor
   pub lead-divisor : (s : State) → Sound S s → Closed S s → (t : Term) (f : Poly) → Written F O N (t ∷ f) → Member F N (s .rows) (t ∷ f) → (k : ℕ) × Involutive D (leaders (s .rows)) k (exponents t)
   lead-divisor s I c = on-typed s I c (λ R. (t : Term) (f : Poly) → Written F O N (t ∷ f) → Member F N R (t ∷ f) → (k : ℕ) × Involutive D (leaders R) k (exponents t))
-      (λ T J d t f w m. go T J d (Typing.typed F L N (t ∷ f) (w .over)) w m)
+      (λ T J d t f w m. go T J d (Typing.typed S W (t ∷ f) (w .over)) w m)
     where
       go : {t : Term} {f : Poly} (T : List Typed) → Sound S (st (map raw T) (s .marks)) → Closed S (st (map raw T) (s .marks)) → (p : Typed) × (raw p ≡ t ∷ f) → Written F O N (t ∷ f) → Member F N (map raw T) (t ∷ f) → (k : ℕ) × Involutive D (leaders (map raw T)) k (exponents t)
       go T J d ([], e) w m = let z : _≡_ {A = ℕ} 0 (suc _) = ap length e in absurd (omega arith)
       go {t} {f} T J d (u ∷ p, e) w m =
-          let r = Tables.lead-divisor F L N O (W .order) (W .variables) D (W .division) T (typed-good T (s .marks) J) (closing T (s .marks) J d) u p (Typing.written-sorted F L N O (W .order) (u ∷ p) (subst (Written F O N) (sym e) w)) (Typing.member-span F L N T (u ∷ p) (subst (Member F N (map raw T)) (sym e) m)) in
+          let r = Tables.lead-divisor S W T (typed-good T (s .marks) J) (closing T (s .marks) J d) u p (Typing.written-sorted S W (u ∷ p) (subst (Written F O N) (sym e) w)) (Typing.member-span S W T (u ∷ p) (subst (Member F N (map raw T)) (sym e) m)) in
           (r .0, subst (Involutive D (leaders (map raw T)) (r .0)) (ap leading e) (r .1))
 
   -- irreducible polynomials that differ by a member are the same
   pub one-remainder : (s : State) → Sound S s → Closed S s → (f g : Poly) → Written F O N f → Written F O N g → Irreducible F O D N (s .rows) f → Irreducible F O D N (s .rows) g → Member F N (s .rows) (Value.minus F f g) → f ≡ g
   one-remainder s I c = on-typed s I c (λ R. (f g : Poly) → Written F O N f → Written F O N g → Irreducible F O D N R f → Irreducible F O D N R g → Member F N R (Value.minus F f g) → f ≡ g)
       (λ T J d f g v w i j m.
-      let p = Typing.typed F L N f (v .over) in
-      let q = Typing.typed F L N g (w .over) in
+      let p = Typing.typed S W f (v .over) in
+      let q = Typing.typed S W g (w .over) in
       let u : Typed = p .0 ++ Algebra.negated B (q .0) in
-      let e : raw u ≡ Value.minus F f g = Typing.raw-minus F L N (p .0) (q .0) ∙ (λ i. Value.minus F (p .1 i) (q .1 i)) in
-      let k : Algebra.at B u ≡ Typing.minus F L N (p .0) (q .0) = Algebra.at-++ B (p .0) (Algebra.negated B (q .0)) ∙ ap (Algebra._⊕_ B (Algebra.at B (p .0))) (Algebra.at-negated B (q .0)) in
+      let e : raw u ≡ Value.minus F f g = Typing.raw-minus S W (p .0) (q .0) ∙ (λ i. Value.minus F (p .1 i) (q .1 i)) in
+      let k : Algebra.at B u ≡ Typing.minus S W (p .0) (q .0) = Algebra.at-++ B (p .0) (Algebra.negated B (q .0)) ∙ ap (Algebra._⊕_ B (Algebra.at B (p .0))) (Algebra.at-negated B (q .0)) in
       sym (p .1) ∙ ap raw (core′ T (s .marks) J d (p .0) (q .0) (subst (Written F O N) (sym (p .1)) v) (subst (Written F O N) (sym (q .1)) w) (subst (Irreducible F O D N (map raw T)) (sym (p .1)) i) (subst (Irreducible F O D N (map raw T)) (sym (q .1)) j)
-      (subst (Span B T) k (Typing.member-span F L N T u (subst (Member F N (map raw T)) (sym e) m)))) ∙ q .1)
+      (subst (Span B T) k (Typing.member-span S W T u (subst (Member F N (map raw T)) (sym e) m)))) ∙ q .1)
 
   -- ---- copies
   abbrev Tidied : (T : List Typed) (m : ℕ → ℕ → Bool) → Sound S (st (map raw T) m) → (k : ℕ) → Within k (length T) → Poly → Type 0
-  Tidied T m I k w f = Tables.Tidied F L N O (W .order) (W .variables) D (W .division) T (typed-good T m I) (k, w) f
+  Tidied T m I k w f = Tables.Tidied S W T (typed-good T m I) (k, w) f
 
   tidied : (T : List Typed) (m : ℕ → ℕ → Bool) (I : Sound S (st (map raw T) m)) (k : ℕ) (w : Within k (length T)) {f : Poly} → CopyOf S (st (map raw T) m) k f → Tidied T m I k w f
-  tidied T m I k w {f} c = subst (Tidied T m I k w) (sym (c .is)) (Tables.tidied F L N O (W .order) (W .variables) D (W .division) T (typed-good T m I) (k, w) (c .reduced))
+  tidied T m I k w {f} c = subst (Tidied T m I k w) (sym (c .is)) (Tables.tidied S W T (typed-good T m I) (k, w) (c .reduced))
 
   tidied-span : (T : List Typed) (m : ℕ → ℕ → Bool) (I : Sound S (st (map raw T) m)) (k : ℕ) (w : Within k (length T)) {f : Poly} (t : Tidied T m I k w f) → Span B T (Algebra.at B (t .poly))
-  tidied-span T m I k w t = Algebra.span-back B _ _ (t .span) (Algebra.span-gen B (Typing.row-member F L N T (k - 1) (omega arith)))
+  tidied-span T m I k w t = Algebra.span-back B _ _ (t .span) (Algebra.span-gen B (Typing.row-member S W T (k - 1) (omega arith)))
 
   -- a copy is written, and a member
   pub record Fair (s : State) (k : ℕ) (f : Poly) : Type 0 where
@@ -146,20 +146,20 @@ module _ (S : Setting) (W : Lawful S) where
       (λ T J v d.
       let u : Within k (length T) = rw (length-map T raw) at v in
       let t = tidied T (s .marks) J k u d in
-      let m : Tables.Sorted F L N O (W .order) (t .poly) = rw (t .monic .is) (t .monic .sorted) in
+      let m : Tables.Sorted S W (t .poly) = rw (t .monic .is) (t .monic .sorted) in
       record {
-        good = subst (Written F O N) (t .is) (Typing.sorted-written F L N O (W .order) (t .poly) m);
-        member = subst (Member F N (map raw T)) (t .is) (Typing.span-member F L N T (t .poly) (tidied-span T (s .marks) J k u t));
+        good = subst (Written F O N) (t .is) (Typing.sorted-written S W (t .poly) m);
+        member = subst (Member F N (map raw T)) (t .is) (Typing.span-member S W T (t .poly) (tidied-span T (s .marks) J k u t));
       }) w c
 
-  lowest-minimal : (T : List Typed) (m : ℕ → ℕ → Bool) (I : Sound S (st (map raw T) m)) (k : ℕ) (w : Within k (length T)) → ((j : (k : ℕ) × Within k (length T)) (a : Mono N) → Typing.lead F L N (getD T (k - 1) []) ≡ Monomials.mul (Typing.lead F L N (getD T (j .0 - 1) [])) a → j .0 ≡ k) → Minimal S (st (map raw T) m) k
+  lowest-minimal : (T : List Typed) (m : ℕ → ℕ → Bool) (I : Sound S (st (map raw T) m)) (k : ℕ) (w : Within k (length T)) → ((j : (k : ℕ) × Within k (length T)) (a : Mono N) → Typing.lead S W (getD T (k - 1) []) ≡ Monomials.mul (Typing.lead S W (getD T (j .0 - 1) [])) a → j .0 ≡ k) → Minimal S (st (map raw T) m) k
   lowest-minimal T m I k w h = record {
     within = rw (length-map T raw) w;
-    undivided = λ j v d. h (j, rw (length-map T raw) at v) (Monomials.over (Typing.lead F L N (getD T (k - 1) [])) (Typing.lead F L N (getD T (j - 1) []))) (sym (Monomials.mul-over (Typing.lead F L N (getD T (j - 1) [])) (Typing.lead F L N (getD T (k - 1) [])) (subst₂ Divides (led j) (led k) d)));
+    undivided = λ j v d. h (j, rw (length-map T raw) at v) (Monomials.over (Typing.lead S W (getD T (k - 1) [])) (Typing.lead S W (getD T (j - 1) []))) (sym (Monomials.mul-over (Typing.lead S W (getD T (j - 1) [])) (Typing.lead S W (getD T (k - 1) [])) (subst₂ Divides (led j) (led k) d)));
   }
     where
-      led : (k : ℕ) → leading (row (map raw T) k) ≡ Typing.lead F L N (getD T (k - 1) []) .0
-      led k = ap leading (Typing.raw-row F L N T (k - 1)) ∙ Typing.raw-lead F L N (getD T (k - 1) [])
+      led : (k : ℕ) → leading (row (map raw T) k) ≡ Typing.lead S W (getD T (k - 1) []) .0
+      led k = ap leading (Typing.raw-row S W T (k - 1)) ∙ Typing.raw-lead S W (getD T (k - 1) [])
 
   -- the copies generate the ideal of the rows
   pub copies-ideal : (s : State) → Sound S s → Closed S s → (ks : List ℕ) (fs : List Poly) → Selection S s ks → Copies S s ks (copies fs) → SameIdeal F N (s .rows) fs
@@ -169,20 +169,20 @@ module _ (S : Setting) (W : Lawful S) where
       m = s .marks
 
       go : (T : List Typed) → Sound S (st (map raw T) m) → Closed S (st (map raw T) m) → Selection S (st (map raw T) m) ks → Copies S (st (map raw T) m) ks (copies fs) → SameIdeal F N (map raw T) fs
-      go T J d sel cop = subst (SameIdeal F N (map raw T)) (P .1) (Typing.same-ideal F L N T (P .0)
-          (Tables.regenerate-all F L N O (W .order) (W .variables) D (W .division) T (typed-good T m J) (closing T m J d) (P .0) (λ k low.
+      go T J d sel cop = subst (SameIdeal F N (map raw T)) (P .1) (Typing.same-ideal S W T (P .0)
+          (Tables.regenerate-all S W T (typed-good T m J) (closing T m J d) (P .0) (λ k low.
           let a = copy-to S (st (map raw T) m) b (k .0) (sel .minimal (k .0) .1 (lowest-minimal T m J (k .0) (k .1) low)) in
           let t = tidied T m J (k .0) (k .1) (a .copy) in
-          let r = Ideals.raw-memᴰ F L N (P .0) (subst (List·Memᴰ (a .f)) (sym (P .1)) (a .stands)) in
-          record { poly = t .poly; inside = subst (Span B (P .0)) (Typing.same-value F L N (r .0) (t .poly) (r .2 ∙ sym (t .is))) (Algebra.span-gen B (r .1)); monic = t .monic; leads = t .leads; span = t .span }))
+          let r = Ideals.raw-memᴰ S W (P .0) (subst (List·Memᴰ (a .f)) (sym (P .1)) (a .stands)) in
+          record { poly = t .poly; inside = subst (Span B (P .0)) (Typing.same-value S W (r .0) (t .poly) (r .2 ∙ sym (t .is))) (Algebra.span-gen B (r .1)); monic = t .monic; leads = t .leads; span = t .span }))
           (λ h k.
           let a = copy-from S (st (map raw T) m) b (raw h) (subst (List·Memᴰ (raw h)) (P .1) (mem-raw (P .0) k)) in
           let w : Within (a .k) (length T) = rw (length-map T raw) at (sel .minimal (a .k) .0 (a .stands) .within) in
           let t = tidied T m J (a .k) w (a .copy) in
-          subst (Span B T) (Typing.same-value F L N (t .poly) h (t .is)) (tidied-span T m J (a .k) w t)))
+          subst (Span B T) (Typing.same-value S W (t .poly) h (t .is)) (tidied-span T m J (a .k) w t)))
         where
           b : Beside S (st (map raw T) m) ks fs
           b = beside S (st (map raw T) m) cop
 
           P : (P : List Typed) × (map raw P ≡ fs)
-          P = Typing.typeds F L N fs (λ f h. let a = copy-from S (st (map raw T) m) b f h in fair (st (map raw T) m) J (a .k) (sel .minimal (a .k) .0 (a .stands) .within) (a .copy) .good .over)
+          P = Typing.typeds S W fs (λ f h. let a = copy-from S (st (map raw T) m) b f h in fair (st (map raw T) m) J (a .k) (sel .minimal (a .k) .0 (a .stands) .within) (a .copy) .good .over)

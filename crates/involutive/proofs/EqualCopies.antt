@@ -18,6 +18,7 @@ use Rattle.involutive.specs.Reduction.{row, leaders, Irreducible}
 use Rattle.involutive.specs.Sheet.{Setting, State, Closed, Lawful}
 use Rattle.involutive.specs.Answers.{Answer, copied-answer, front, Minimal, Selection, Copies, copies, FairCopies, copy-open, copy-denied, copy-short, copy-written}
 use Rattle.polynomial.specs.Bytes.{copy-bytes}
+use Rattle.involutive.specs.Log.{Call, After}
 use Rattle.involutive.specs.Complete.{GrantedCopy, under-division, Copies-decide}
 use Rattle.involutive.proofs.Lists
 use Rattle.involutive.proofs.Monomials
@@ -27,7 +28,7 @@ use Rattle.involutive.proofs.Copying.{CopyOf, Beside, no-more, one-more, besid
 use Rattle.involutive.proofs.Soundness
 use Rattle.involutive.specs.Sound.{Sound}
 use Rattle.involutive.proofs.ClosedSheets
-use Rattle.involutive.proofs.Remainders
+use Rattle.involutive.proofs.KeptIdeal
 
 divides-trans : (u m n : List ℕ) → Divides u m → Divides m n → Divides u n
 divides-trans u m n h k v = omega (arith, h v, k v)
@@ -35,12 +36,46 @@ divides-trans u m n h k v = omega (arith, h v, k v)
 divides-both : (u m : List ℕ) → Wide u → Wide m → Divides u m → Divides m u → u ≡ m
 divides-both u m a b h k = Lists.same-entries u m (a ∙ sym b) (λ i. let e : suc i - 1 ≡ i = omega arith in let x = h (suc i) in let y = k (suc i) in let p : getD u i 0 ≤ getD m i 0 = rw e at x in let q : getD m i 0 ≤ getD u i 0 = rw e at y in omega arith)
 
-module _ (F : FieldMeaning) (O : Compare) (N : ℕ) (L : FieldLaws F) (Q : OrderLaws O) (V : Within N 6) where
+-- the bytes of a granted fair copy are those of the copied rows
+record CopiedBytes (S : Setting) (s : State) (b : List ℕ) : Type 0 where
+  ks : List ℕ
+  fs : List Poly
+  selection : Selection S s ks
+  copied : Copies S s ks (copies fs)
+  bytes : b ≡ copy-bytes fs
+
+granted : (S : Setting) (s : State) (b : List ℕ) → GrantedCopy S s b → CopiedBytes S s b
+granted S s b G = go (G .grant) refl (G .front)
+  where
+    go : {a : Answer} {after : List ℕ} → FairCopies S s (G .out) a after → a ≡ copied-answer (G .rows) (length b) → take (length b) after ≡ b → CopiedBytes S s b
+    go (copy-open n) e d = let z : _≡_ {A = ℕ} 0 1 = cc in absurd (omega arith)
+    go (copy-denied c z m) e d = let z : _≡_ {A = ℕ} 0 1 = cc in absurd (omega arith)
+    go (copy-short c z m l) e d = let z : _≡_ {A = ℕ} 0 1 = cc in absurd (omega arith)
+    go (copy-written {ks = ks} {fs = fs} c z m l) e d =
+        let n : length (copy-bytes fs) ≡ length b = cc in
+        record { ks = ks; fs = fs; selection = z; copied = m; bytes = sym d ∙ ap (λ i. take i (front (copy-bytes fs) (G .out))) (sym n) ∙ take-append-seam (copy-bytes fs) (drop (length (copy-bytes fs)) (G .out)) }
+
+module _ (S : Setting) (W : Lawful S) where
+  abbrev F : FieldMeaning
+  F = S .field
+
+  abbrev L : FieldLaws F
+  L = W .field
+
+  abbrev N : ℕ
+  N = S .variables
+
+  abbrev O : Compare
+  O = S .order
+
+  abbrev Q : OrderLaws O
+  Q = W .order
+
   abbrev set : Split → Setting
-  set D = record { field = F; order = O; division = D; variables = N }
+  set D = under-division S D
 
   abbrev lawful : {D : Split} → DivisionLaws D → Lawful (set D)
-  lawful E = record { field = L; order = Q; division = E; variables = V }
+  lawful E = record { field = L; order = Q; division = E; variables = W .variables }
 
   -- a closed sheet and its copies
   record Side (D : Split) (E : DivisionLaws D) : Type 0 where
@@ -81,7 +116,7 @@ module _ (F : FieldMeaning) (O : Compare) (N : ℕ) (L : FieldLaws F) (Q : Order
     rows-over p h = A .sound .each p h .acceptable .written .over
 
     row-member : (k : ℕ) → In-rows k → Member F N (A .s .rows) (row (A .s .rows) k)
-    row-member k w = Ideals.member-generator F L N (A .s .rows) rows-over (row (A .s .rows) k) (Soundness.row-mem (set D) (lawful E) (A .s .rows) (k - 1) (omega arith))
+    row-member k w = Ideals.member-generator S W (A .s .rows) rows-over (row (A .s .rows) k) (Soundness.row-mem (set D) (lawful E) (A .s .rows) (k - 1) (omega arith))
 
     in-rows : (k : ℕ) → List·Memᴰ k (A .ks) → In-rows k
     in-rows k h = A .selection .minimal k .0 h .within
@@ -146,7 +181,7 @@ module _ (F : FieldMeaning) (O : Compare) (N : ℕ) (L : FieldLaws F) (Q : Order
         let l : Divides (lm A k) (exponents t) = subst (λ x. Divides x (exponents t)) (Soundness.lead-at (A .s .rows) (k - 1) (omega arith)) (v .divides) in
         let p : Poly = scaled F 1 a (row (A .s .rows) k) in
         let pw : Written F O N p = Soundness.written-scaled (set D) (lawful E) 1 a (omega arith) (L .differ) an (row (A .s .rows) k) (f .good) in
-        let pm : Member F N (A .s .rows) p = Ideals.member-scaled F L N 1 a (L .differ) an (A .s .rows) (rows-over A) (row (A .s .rows) k) (f .good .over) (row-member A k n) in
+        let pm : Member F N (A .s .rows) p = Ideals.member-scaled S W 1 a (L .differ) an (A .s .rows) (rows-over A) (row (A .s .rows) k) (f .good .over) (row-member A k n) in
         let e : p ≡ scaled F 1 a (term 1 (lm A k) ∷ f .tail) = ap (scaled F 1 a) (f .is) in
         let r = ClosedSheets.lead-divisor (set D′) (lawful E′) (C .s) (C .sound) (C .closed) (term (F .mul 1 1) (times a (lm A k))) (scaled F 1 a (f .tail)) (subst (Written F O N) e pw) (subst (Member F N (C .s .rows)) e (i p (pw .over) pm)) in
         let q : times a (lm A k) ≡ exponents t = Monomials.times-comm a (lm A k) ∙ Monomials.times-quotient (lm A k) (exponents t) (wide-lm A k ∙ sym (c .wide)) (λ x. let y : suc x - 1 ≡ x = omega arith in rw y at (l (suc x))) in
@@ -166,7 +201,7 @@ module _ (F : FieldMeaning) (O : Compare) (N : ℕ) (L : FieldLaws F) (Q : Order
         let u = ClosedSheets.fair (set D) (lawful E) (A .s) (A .sound) (a .k) (m .within) (a .copy) in
         let v = ClosedSheets.fair (set D′) (lawful E′) (C .s) (C .sound) (t .k′) (t .minimal .within) (c .copy) in
         let o : Over F N (term 1 (lm A (a .k)) ∷ a .copy .rest) = subst (Over F N) e (u .good .over) in
-        let n : Member F N (A .s .rows) (minus F (a .copy .rest) (c .copy .rest)) = Ideals.member-tails F L N (term 1 (lm A (a .k))) (o _ (List·Memᴰ·head refl)) (A .s .rows) (rows-over A) (a .copy .rest) (x .0 .over) (c .copy .rest) (y .0 .over) (subst (Member F N (A .s .rows)) e (u .member)) (subst (Member F N (A .s .rows)) d (j (c .f) (v .good .over) (v .member))) in
+        let n : Member F N (A .s .rows) (minus F (a .copy .rest) (c .copy .rest)) = Ideals.member-tails S W (term 1 (lm A (a .k))) (o _ (List·Memᴰ·head refl)) (A .s .rows) (rows-over A) (a .copy .rest) (x .0 .over) (c .copy .rest) (y .0 .over) (subst (Member F N (A .s .rows)) e (u .member)) (subst (Member F N (A .s .rows)) d (j (c .f) (v .good .over) (v .member))) in
         let g : a .copy .rest ≡ c .copy .rest = ClosedSheets.one-remainder (set D) (lawful E) (A .s) (A .sound) (A .closed) (a .copy .rest) (c .copy .rest) (x .0) (y .0) (x .1) (irreducible (c .copy .rest) (y .0) (y .1)) n in
         subst (λ z. List·Memᴰ z (C .fs)) (d ∙ ap (λ z. term 1 (lm A (a .k)) ∷ z) (sym g) ∙ sym e) (c .stands)
 
@@ -199,56 +234,41 @@ module _ (F : FieldMeaning) (O : Compare) (N : ℕ) (L : FieldLaws F) (Q : Order
   same-copies : {D D′ : Split} {E : DivisionLaws D} {E′ : DivisionLaws D′} (A : Side D E) (C : Side D′ E′) → Inside A C → Inside C A → A .fs ≡ C .fs
   same-copies A C i j = Lists.up-eq Lower lower-asym (rising A) (rising C) (into A C i j) (into C A j i)
 
--- the bytes of a granted fair copy are those of the copied rows
-record CopiedBytes (S : Setting) (s : State) (b : List ℕ) : Type 0 where
-  ks : List ℕ
-  fs : List Poly
-  selection : Selection S s ks
-  copied : Copies S s ks (copies fs)
-  bytes : b ≡ copy-bytes fs
+  turned : {gs hs : List Poly} → SameIdeal F N gs hs → SameIdeal F N hs gs
+  turned h f o = (h f o .1, h f o .0)
 
-granted : (S : Setting) (s : State) (b : List ℕ) → GrantedCopy S s b → CopiedBytes S s b
-granted S s b G = go (G .grant) refl (G .front)
-  where
-    go : {a : Answer} {after : List ℕ} → FairCopies S s (G .out) a after → a ≡ copied-answer (G .rows) (length b) → take (length b) after ≡ b → CopiedBytes S s b
-    go (copy-open n) e d = let z : _≡_ {A = ℕ} 0 1 = cc in absurd (omega arith)
-    go (copy-denied c z m) e d = let z : _≡_ {A = ℕ} 0 1 = cc in absurd (omega arith)
-    go (copy-short c z m l) e d = let z : _≡_ {A = ℕ} 0 1 = cc in absurd (omega arith)
-    go (copy-written {ks = ks} {fs = fs} c z m l) e d =
-        let n : length (copy-bytes fs) ≡ length b = cc in
-        record { ks = ks; fs = fs; selection = z; copied = m; bytes = sym d ∙ ap (λ i. take i (front (copy-bytes fs) (G .out))) (sym n) ∙ take-append-seam (copy-bytes fs) (drop (length (copy-bytes fs)) (G .out)) }
-
-module _ (S : Setting) (W : Lawful S) where
-  abbrev F : FieldMeaning
-  F = S .field
-
-  abbrev Sd : (D : Split) → DivisionLaws D → Type 0
-  Sd = Side (S .field) (S .order) (S .variables) (W .field) (W .order) (W .variables)
-
-  both-ways : {gs hs : List Poly} → SameIdeal F (S .variables) gs hs → SameIdeal F (S .variables) hs gs
-  both-ways h f o = (h f o .1, h f o .0)
-
-  chain : {fs gs hs : List Poly} → SameIdeal F (S .variables) fs gs → SameIdeal F (S .variables) gs hs → SameIdeal F (S .variables) fs hs
+  chain : {fs gs hs : List Poly} → SameIdeal F N fs gs → SameIdeal F N gs hs → SameIdeal F N fs hs
   chain h k f o = (λ m. k f o .0 (h f o .0 m), λ m. h f o .1 (k f o .1 m))
 
+  -- a sheet that a log has closed, with its granted copy
+  module _ {D : Split} (E : DivisionLaws D) {calls : List Call} {s : State} {gs : List Poly} (a : After (set D) calls s gs) (c : Closed (set D) s) {b : List ℕ} (G : GrantedCopy (set D) s b) where
+    side : Side D E
+    side =
+        let H = granted (set D) s b G in
+        record { s = s; sound = Soundness.sound (set D) (lawful E) a; closed = c; ks = H .ks; fs = H .fs; selection = H .selection; copied = beside (set D) s (H .copied) }
+
+    side-rows : SameIdeal F N (s .rows) gs
+    side-rows = KeptIdeal.keeps-ideal (set D) (lawful E) calls s gs a
+
+    side-copies : SameIdeal F N (side .fs) gs
+    unfolding side
+    side-copies = let H = granted (set D) s b G in chain (turned (ClosedSheets.copies-ideal (set D) (lawful E) s (Soundness.sound (set D) (lawful E) a) c (H .ks) (H .fs) (H .selection) (H .copied))) side-rows
+
+    side-bytes : b ≡ copy-bytes (side .fs)
+    unfolding side
+    side-bytes = granted (set D) s b G .bytes
+
   pub copies-decide : (D : Split) → DivisionLaws D → Copies-decide S D
+  unfolding side
   copies-decide D E calls calls′ s s′ gs hs a c a′ c′ b b′ G G′ =
-      let S′ : Setting = under-division S D in
-      let W′ : Lawful S′ = record { field = W .field; order = W .order; division = E; variables = W .variables } in
-      let so = Soundness.sound S W a in
-      let so′ = Soundness.sound S′ W′ a′ in
-      let H = granted S s b G in
-      let H′ = granted S′ s′ b′ G′ in
-      let A : Sd (S .division) (W .division) = record { s = s; sound = so; closed = c; ks = H .ks; fs = H .fs; selection = H .selection; copied = beside S s (H .copied) } in
-      let C : Sd D E = record { s = s′; sound = so′; closed = c′; ks = H′ .ks; fs = H′ .fs; selection = H′ .selection; copied = beside S′ s′ (H′ .copied) } in
-      let k : SameIdeal F (S .variables) (s .rows) gs = Remainders.keeps-ideal S W calls s gs a in
-      let k′ : SameIdeal F (S .variables) (s′ .rows) hs = Remainders.keeps-ideal S′ W′ calls′ s′ hs a′ in
-      let g : SameIdeal F (S .variables) (s .rows) (H .fs) = ClosedSheets.copies-ideal S W s so c (H .ks) (H .fs) (H .selection) (H .copied) in
-      let g′ : SameIdeal F (S .variables) (s′ .rows) (H′ .fs) = ClosedSheets.copies-ideal S′ W′ s′ so′ c′ (H′ .ks) (H′ .fs) (H′ .selection) (H′ .copied) in (
+      let A : Side (S .division) (W .division) = side (W .division) a c G in
+      let C : Side D E = side E a′ c′ G′ in
+      let p : b ≡ copy-bytes (A .fs) = side-bytes (W .division) a c G in
+      let q : b′ ≡ copy-bytes (C .fs) = side-bytes E a′ c′ G′ in (
         λ e.
-            let d : H .fs ≡ H′ .fs = Bytes.same-copies (H .fs) (H′ .fs) (wides _ _ _ _ _ _ A) (wides _ _ _ _ _ _ C) (sym (H .bytes) ∙ e ∙ H′ .bytes) in
-            chain (both-ways k) (chain (subst (SameIdeal F (S .variables) (s .rows)) d g) (chain (both-ways g′) k′)),
+            let d : A .fs ≡ C .fs = Bytes.same-copies (A .fs) (C .fs) (wides A) (wides C) (sym p ∙ e ∙ q) in
+            chain (turned (side-copies (W .division) a c G)) (subst (λ fs. SameIdeal F N fs hs) (sym d) (side-copies E a′ c′ G′)),
         λ h.
-            let i : SameIdeal F (S .variables) (s .rows) (s′ .rows) = chain k (chain h (both-ways k′)) in
-            H .bytes ∙ ap copy-bytes (same-copies _ _ _ _ _ _ A C (λ f o m. i f o .0 m) (λ f o m. i f o .1 m)) ∙ sym (H′ .bytes),
+            let i : SameIdeal F N (s .rows) (s′ .rows) = chain (side-rows (W .division) a c G) (chain h (turned (side-rows E a′ c′ G′))) in
+            p ∙ ap copy-bytes (same-copies A C (λ f o m. i f o .0 m) (λ f o m. i f o .1 m)) ∙ sym q,
       )

@@ -41,13 +41,13 @@ module _ (S : Setting) (W : Lawful S) where
   B = base L N
 
   abbrev pub Typed : Type 0
-  Typed = Typing.Typed F L N
+  Typed = Typing.Typed S W
 
   abbrev pub raw : Typed → Poly
-  raw = Typing.raw F L N
+  raw = Typing.raw S W
 
   abbrev pub minus : Typed → Typed → Algebra.V B
-  minus = Typing.minus F L N
+  minus = Typing.minus S W
 
   -- what is left of p
   pub record Left (T : List Typed) (p : Typed) (g : Poly) : Type 0 where
@@ -63,10 +63,10 @@ module _ (S : Setting) (W : Lawful S) where
   reduces T (wide r f) p e n g d = let z : _≡_ {A = ℕ} 0 1 = cc in absurd (omega arith)
   reduces T (long r f x l) p e n g d = let z : _≡_ {A = ℕ} 0 1 = cc in absurd (omega arith)
   reduces T (acts {h = h} {g = g′} {t = t} {k = k} r f x l more) p e n g d =
-      let o : Over F N h = subst (Over F N) e (Typing.raw-over F L N p) in
-      let q = Typing.typed F L N g′ (x .written .over) in
+      let o : Over F N h = subst (Over F N) e (Typing.raw-over S W p) in
+      let q = Typing.typed S W g′ (x .written .over) in
       let c = o t (r .stands) in
-      let a : Span B T (minus p (q .0)) = Typing.action F L N (S .order) (S .division) T p (q .0) ((t .coefficient, c .0), (exponents t, c .1)) k (simp (length-map) at (r .divisor .within)) (rw (e, q .1) x) in
+      let a : Span B T (minus p (q .0)) = Typing.action S W T p (q .0) ((t .coefficient, c .0), (exponents t, c .1)) k (simp (length-map) at (r .divisor .within)) (rw (e, q .1) x) in
       let s = reduces T more (q .0) (q .1) (x .written .nonzero) g d in
       record { poly = s .poly; is = s .is; nonzero = s .nonzero; span = Algebra.span-diff B (Algebra.at B p) (Algebra.at B (q .0)) (Algebra.at B (s .poly)) a (s .span) }
 
@@ -92,17 +92,17 @@ module _ (S : Setting) (W : Lawful S) where
   new-row : {s : State} {gs hs : List Poly} {t : Term} {g : Poly} (I : Inv s gs) (H : List Typed) → map raw H ≡ hs → (q : Typed) → raw q ≡ t ∷ g → Nonzero (t ∷ g) → Spans H (I .T) → Span B H (Algebra.at B q) →
       ((n : List Typed) → Span B (I .T ++ n) (Algebra.at B q) → Spans (I .T ++ n) H) → Inv (with-row S s (t ∷ g)) hs
   new-row {s} {gs} {hs} {t} {g} I H e q d n f h k =
-      let o : Over F N (t ∷ g) = subst (Over F N) d (Typing.raw-over F L N q) in
+      let o : Over F N (t ∷ g) = subst (Over F N) d (Typing.raw-over S W q) in
       let c : Code F = (t .coefficient, o t (List·Memᴰ·head refl) .0) in
-      let i = Typing.inverse F L N c (n t (List·Memᴰ·head refl)) in
+      let i = Typing.inverse S W c (n t (List·Memᴰ·head refl)) in
       let r : Typed = Algebra.scaled B (i .code) Monomials.unit q in
-      let re : raw r ≡ Value.scaled F (F .inv (t .coefficient)) Rattle.monomial.specs.Monomial.one (t ∷ g) = Typing.raw-scaled F L N (i .code) Monomials.unit q ∙ (λ j. Value.scaled F (i .is j) Rattle.monomial.specs.Monomial.one (d j)) in
+      let re : raw r ≡ Value.scaled F (F .inv (t .coefficient)) Rattle.monomial.specs.Monomial.one (t ∷ g) = Typing.raw-scaled S W (i .code) Monomials.unit q ∙ (λ j. Value.scaled F (i .is j) Rattle.monomial.specs.Monomial.one (d j)) in
       let ra : Algebra.at B r ≡ Algebra.shift B (i .code) Monomials.unit (Algebra.at B q) = Algebra.at-scaled B (i .code) Monomials.unit q in
       let T′ : List Typed = I .T ++ (r ∷ []) in
       record {
         T = T′;
         rows = map-append raw (I .T) (r ∷ []) ∙ cc (I .rows, re);
-        nonzero = Lists.both (λ p. Nonzero (raw p)) (I .T) r (I .nonzero) (Typing.nonzero-scaled F L N (i .code) Monomials.unit q (i .pos) (subst Nonzero (sym d) n));
+        nonzero = Lists.both (λ p. Nonzero (raw p)) (I .T) r (I .nonzero) (Typing.nonzero-scaled S W (i .code) Monomials.unit q (i .pos) (subst Nonzero (sym d) n));
         G = H;
         gens = e;
         into = Lists.both (λ p. Span B H (Algebra.at B p)) (I .T) r f (subst (Span B H) (sym ra) (Algebra.span-shift B (i .code) Monomials.unit h));
@@ -120,7 +120,7 @@ module _ (S : Setting) (W : Lawful S) where
   pub no-fault : (f : Poly) → first-fault S f ≡ None → (p : Typed) × (raw p ≡ f) × Nonzero f
   no-fault f e =
       let w = acceptable-from F (S .order) N f e .written in
-      let p = Typing.typed F L N f (w .over) in
+      let p = Typing.typed S W f (w .over) in
       (p .0, p .1, w .nonzero)
 
   adds : {s s′ : State} {gs : List Poly} {f : Poly} {n : ℕ} → Inv s gs → Adds S s f (rows-now n) s′ → Inv s′ (gs ++ (f ∷ []))
@@ -155,10 +155,10 @@ module _ (S : Setting) (W : Lawful S) where
       let x : Mono N = Monomials.var v (c .pair .at-variable) in
       let y : Typed = getD (I .T) (k - 1) [] in
       let p : Typed = Algebra.scaled B (B .𝟙) x y in
-      let e : raw p ≡ prolonged S s k v = Typing.raw-scaled F L N (B .𝟙) x y ∙ ap (Value.scaled F 1 (variable v)) (sym (Typing.raw-row F L N (I .T) (k - 1)) ∙ ap (λ R. row R k) (I .rows)) in
+      let e : raw p ≡ prolonged S s k v = Typing.raw-scaled S W (B .𝟙) x y ∙ ap (Value.scaled F 1 (variable v)) (sym (Typing.raw-row S W (I .T) (k - 1)) ∙ ap (λ R. row R k) (I .rows)) in
       let w : length (I .T) ≡ length (s .rows) = sym (length-map (I .T) raw) ∙ ap length (I .rows) in
-      let h : List·Memᴰ y (I .T) = Typing.row-member F L N (I .T) (k - 1) (omega arith) in
-      let l = left-over I r p e (subst Nonzero e (Typing.nonzero-scaled F L N (B .𝟙) x y (omega arith) (I .nonzero y h))) in
+      let h : List·Memᴰ y (I .T) = Typing.row-member S W (I .T) (k - 1) (omega arith) in
+      let l = left-over I r p e (subst Nonzero e (Typing.nonzero-scaled S W (B .𝟙) x y (omega arith) (I .nonzero y h))) in
       let q : Span B (I .T) (Algebra.at B p) = subst (Span B (I .T)) (sym (Algebra.at-scaled B (B .𝟙) x y)) (Algebra.span-shift B (B .𝟙) x (Algebra.span-gen B h)) in
       new-row I (I .G) (I .gens) (l .poly) (l .is) (l .nonzero) (I .into) (Algebra.span-trans B (I .into) (Algebra.span-back B _ _ (l .span) q)) (λ n q z m. wider n (I .from z m))
 
@@ -178,7 +178,7 @@ module _ (S : Setting) (W : Lawful S) where
   inv (judged a h) = inv a
 
   finish : {s : State} {gs : List Poly} → Inv s gs → SameIdeal F N (s .rows) gs
-  finish I = subst₂ (SameIdeal F N) (I .rows) (I .gens) (Typing.same-ideal F L N (I .T) (I .G) (I .into) (I .from))
+  finish I = subst₂ (SameIdeal F N) (I .rows) (I .gens) (Typing.same-ideal S W (I .T) (I .G) (I .into) (I .from))
 
   pub keeps-ideal : Keeps-ideal S
   keeps-ideal calls s gs a = finish (inv a)

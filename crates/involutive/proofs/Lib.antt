@@ -16,6 +16,8 @@ pub mod Remainders
 pub mod EqualCopies
 pub mod Completeness
 pub mod Verdicts
+pub mod OneReduction
+pub mod OneChoice
 pub mod OneAnswer
 pub mod Evaluate
 pub mod WorkedFacts

@@ -43,10 +43,10 @@ module _ (S : Setting) (W : Lawful S) where
   O = S .order
 
   abbrev Typed : Type 0
-  Typed = Typing.Typed F L N
+  Typed = Typing.Typed S W
 
   abbrev raw : Typed → Poly
-  raw = Typing.raw F L N
+  raw = Typing.raw S W
 
   abbrev B : Base
   B = base L N
@@ -76,7 +76,7 @@ module _ (S : Setting) (W : Lawful S) where
     is : raw poly ≡ f
     rest : Typed
     rest-is : raw rest ≡ r
-    span : Span B T (Typing.minus F L N poly rest)
+    span : Span B T (Typing.minus S W poly rest)
     good : Written F O N (raw rest)
     irreducible : Irreducible F O (S .division) N (s .rows) (raw rest)
 
@@ -89,9 +89,9 @@ module _ (S : Setting) (W : Lawful S) where
       record { poly = p .0; is = p .1; rest = l .poly; rest-is = l .is; span = l .span; good = subst (Written F O N) (sym (l .is)) (w .0); irreducible = subst (Irreducible F O (S .division) N (s .rows)) (sym (l .is)) (w .1) }
 
   -- where f − g is spanned, the remainders are the same
-  same-rests : {s : State} {gs : List Poly} {f g r t : Poly} (I : KeptIdeal.Inv S W s gs) → Sound S s → Closed S s → (A : Got s (I .T) f r) (C : Got s (I .T) g t) → Span B (I .T) (Typing.minus F L N (A .poly) (C .poly)) → r ≡ t
+  same-rests : {s : State} {gs : List Poly} {f g r t : Poly} (I : KeptIdeal.Inv S W s gs) → Sound S s → Closed S s → (A : Got s (I .T) f r) (C : Got s (I .T) g t) → Span B (I .T) (Typing.minus S W (A .poly) (C .poly)) → r ≡ t
   same-rests {s} I so c A C z =
-      let b : Span B (I .T) (Typing.minus F L N (A .rest) (C .rest)) = Algebra.span-diff B (Algebra.at B (A .rest)) (Algebra.at B (A .poly)) (Algebra.at B (C .rest)) (Algebra.span-swap B (Algebra.at B (A .poly)) (Algebra.at B (A .rest)) (A .span)) (Algebra.span-diff B (Algebra.at B (A .poly)) (Algebra.at B (C .poly)) (Algebra.at B (C .rest)) z (C .span)) in
+      let b : Span B (I .T) (Typing.minus S W (A .rest) (C .rest)) = Algebra.span-diff B (Algebra.at B (A .rest)) (Algebra.at B (A .poly)) (Algebra.at B (C .rest)) (Algebra.span-swap B (Algebra.at B (A .poly)) (Algebra.at B (A .rest)) (A .span)) (Algebra.span-diff B (Algebra.at B (A .poly)) (Algebra.at B (C .poly)) (Algebra.at B (C .rest)) z (C .span)) in
       sym (A .rest-is) ∙ ap raw (ClosedSheets.core S W (s .rows) (s .marks) so c (I .T) (I .rows) (A .rest) (C .rest) (A .good) (C .good) (A .irreducible) (C .irreducible) b) ∙ C .rest-is
 
   pub decide : Remainders-decide S
@@ -100,15 +100,15 @@ module _ (S : Setting) (W : Lawful S) where
       go : (I : KeptIdeal.Inv S W s gs) → Sound S s → Got s (I .T) f r → Got s (I .T) g t → (r ≡ t) ↔ Member F N gs (Value.minus F f g)
       go I so F₁ F₂ =
           let u : Typed = F₁ .poly ++ Algebra.negated B (F₂ .poly) in
-          let m : raw u ≡ Value.minus F f g = Typing.raw-minus F L N (F₁ .poly) (F₂ .poly) ∙ (λ i. Value.minus F (F₁ .is i) (F₂ .is i)) in
-          let k : Algebra.at B u ≡ Typing.minus F L N (F₁ .poly) (F₂ .poly) = Algebra.at-++ B (F₁ .poly) (Algebra.negated B (F₂ .poly)) ∙ ap (Algebra._⊕_ B (Algebra.at B (F₁ .poly))) (Algebra.at-negated B (F₂ .poly)) in (
+          let m : raw u ≡ Value.minus F f g = Typing.raw-minus S W (F₁ .poly) (F₂ .poly) ∙ (λ i. Value.minus F (F₁ .is i) (F₂ .is i)) in
+          let k : Algebra.at B u ≡ Typing.minus S W (F₁ .poly) (F₂ .poly) = Algebra.at-++ B (F₁ .poly) (Algebra.negated B (F₂ .poly)) ∙ ap (Algebra._⊕_ B (Algebra.at B (F₁ .poly))) (Algebra.at-negated B (F₂ .poly)) in (
             λ z.
-                let e : Algebra.at B (F₂ .rest) ≡ Algebra.at B (F₁ .rest) = Typing.same-value F L N (F₂ .rest) (F₁ .rest) (F₂ .rest-is ∙ sym z ∙ sym (F₁ .rest-is)) in
-                let h : Span B (I .T) (Typing.minus F L N (F₁ .rest) (F₂ .poly)) = Algebra.span-swap B (Algebra.at B (F₂ .poly)) (Algebra.at B (F₁ .rest)) (subst (λ v. Span B (I .T) (Algebra._⊕_ B (Algebra.at B (F₂ .poly)) (Algebra.⊖ B v))) e (F₂ .span)) in
-                let b : Span B (I .T) (Typing.minus F L N (F₁ .poly) (F₂ .poly)) = Algebra.span-diff B (Algebra.at B (F₁ .poly)) (Algebra.at B (F₁ .rest)) (Algebra.at B (F₂ .poly)) (F₁ .span) h in
-                subst₂ (Member F N) (I .gens) m (Typing.span-member F L N (I .G) u (subst (Span B (I .G)) (sym k) (Algebra.span-trans B (I .into) b))),
+                let e : Algebra.at B (F₂ .rest) ≡ Algebra.at B (F₁ .rest) = Typing.same-value S W (F₂ .rest) (F₁ .rest) (F₂ .rest-is ∙ sym z ∙ sym (F₁ .rest-is)) in
+                let h : Span B (I .T) (Typing.minus S W (F₁ .rest) (F₂ .poly)) = Algebra.span-swap B (Algebra.at B (F₂ .poly)) (Algebra.at B (F₁ .rest)) (subst (λ v. Span B (I .T) (Algebra._⊕_ B (Algebra.at B (F₂ .poly)) (Algebra.⊖ B v))) e (F₂ .span)) in
+                let b : Span B (I .T) (Typing.minus S W (F₁ .poly) (F₂ .poly)) = Algebra.span-diff B (Algebra.at B (F₁ .poly)) (Algebra.at B (F₁ .rest)) (Algebra.at B (F₂ .poly)) (F₁ .span) h in
+                subst₂ (Member F N) (I .gens) m (Typing.span-member S W (I .G) u (subst (Span B (I .G)) (sym k) (Algebra.span-trans B (I .into) b))),
             λ z.
-                let h : Span B (I .T) (Typing.minus F L N (F₁ .poly) (F₂ .poly)) = Algebra.span-trans B (I .from) (subst (Span B (I .G)) k (Typing.member-span F L N (I .G) u (subst₂ (Member F N) (sym (I .gens)) (sym m) z))) in
+                let h : Span B (I .T) (Typing.minus S W (F₁ .poly) (F₂ .poly)) = Algebra.span-trans B (I .from) (subst (Span B (I .G)) k (Typing.member-span S W (I .G) u (subst₂ (Member F N) (sym (I .gens)) (sym m) z))) in
                 same-rests I so c F₁ F₂ h,
           )
 
@@ -117,9 +117,9 @@ module _ (S : Setting) (W : Lawful S) where
     where
       go : (I : KeptIdeal.Inv S W s gs) → Sound S s → Got s (I .T) f r → Got s (I .T) g t → Got s (I .T) h u → Got s (I .T) p w → u ≡ w
       go I so F₁ F₂ F₃ F₄ =
-          let x : Algebra.at B (F₃ .poly) ≡ Algebra.at B (Algebra.product B (F₁ .poly) (F₂ .poly)) = Typing.from-equal F L N (F₃ .poly) (Algebra.product B (F₁ .poly) (F₂ .poly)) (rw (Typing.raw-product F L N (F₁ .poly) (F₂ .poly), F₁ .is, F₂ .is, F₃ .is) e) in
-          let y : Algebra.at B (F₄ .poly) ≡ Algebra.at B (Algebra.product B (F₁ .rest) (F₂ .rest)) = Typing.from-equal F L N (F₄ .poly) (Algebra.product B (F₁ .rest) (F₂ .rest)) (rw (Typing.raw-product F L N (F₁ .rest) (F₂ .rest), F₁ .rest-is, F₂ .rest-is, F₄ .is) d) in
-          let z : Span B (I .T) (Typing.minus F L N (F₃ .poly) (F₄ .poly)) = rw (x, y) (Algebra.span-product B (F₁ .poly) (F₂ .poly) (F₁ .rest) (F₂ .rest) (F₁ .span) (F₂ .span)) in
+          let x : Algebra.at B (F₃ .poly) ≡ Algebra.at B (Algebra.product B (F₁ .poly) (F₂ .poly)) = Typing.from-equal S W (F₃ .poly) (Algebra.product B (F₁ .poly) (F₂ .poly)) (rw (Typing.raw-product S W (F₁ .poly) (F₂ .poly), F₁ .is, F₂ .is, F₃ .is) e) in
+          let y : Algebra.at B (F₄ .poly) ≡ Algebra.at B (Algebra.product B (F₁ .rest) (F₂ .rest)) = Typing.from-equal S W (F₄ .poly) (Algebra.product B (F₁ .rest) (F₂ .rest)) (rw (Typing.raw-product S W (F₁ .rest) (F₂ .rest), F₁ .rest-is, F₂ .rest-is, F₄ .is) d) in
+          let z : Span B (I .T) (Typing.minus S W (F₃ .poly) (F₄ .poly)) = rw (x, y) (Algebra.span-product B (F₁ .poly) (F₂ .poly) (F₁ .rest) (F₂ .rest) (F₁ .span) (F₂ .span)) in
           same-rests I so c F₃ F₄ z
 
   pub add : Remainders-add S
@@ -128,8 +128,8 @@ module _ (S : Setting) (W : Lawful S) where
       go : (I : KeptIdeal.Inv S W s gs) → Sound S s → Got s (I .T) f r → Got s (I .T) g t → Got s (I .T) h u → Equal F u (Value.plus r t)
       go I so F₁ F₂ F₃ =
           let v : Algebra.V B = Algebra._⊕_ B (Algebra.at B (F₁ .rest)) (Algebra.at B (F₂ .rest)) in
-          let x : Algebra.at B (F₃ .poly) ≡ Algebra._⊕_ B (Algebra.at B (F₁ .poly)) (Algebra.at B (F₂ .poly)) = Typing.from-equal F L N (F₃ .poly) (F₁ .poly ++ F₂ .poly) (rw (Typing.raw-++ F L N (F₁ .poly) (F₂ .poly), F₁ .is, F₂ .is, F₃ .is) e) ∙ Algebra.at-++ B (F₁ .poly) (F₂ .poly) in
+          let x : Algebra.at B (F₃ .poly) ≡ Algebra._⊕_ B (Algebra.at B (F₁ .poly)) (Algebra.at B (F₂ .poly)) = Typing.from-equal S W (F₃ .poly) (F₁ .poly ++ F₂ .poly) (rw (Typing.raw-++ S W (F₁ .poly) (F₂ .poly), F₁ .is, F₂ .is, F₃ .is) e) ∙ Algebra.at-++ B (F₁ .poly) (F₂ .poly) in
           let z : Span B (I .T) (Algebra._⊕_ B (Algebra.at B (F₃ .poly)) (Algebra.⊖ B v)) = rw x (Algebra.span-plus B (Algebra.at B (F₁ .poly)) (Algebra.at B (F₂ .poly)) (Algebra.at B (F₁ .rest)) (Algebra.at B (F₂ .rest)) (F₁ .span) (F₂ .span)) in
           let b : Span B (I .T) (Algebra._⊕_ B (Algebra.at B (F₃ .rest)) (Algebra.⊖ B v)) = Algebra.span-diff B (Algebra.at B (F₃ .rest)) (Algebra.at B (F₃ .poly)) v (Algebra.span-swap B (Algebra.at B (F₃ .poly)) (Algebra.at B (F₃ .rest)) (F₃ .span)) z in
           let k : Algebra.at B (F₃ .rest) ≡ v = ClosedSheets.core-sum S W (s .rows) (s .marks) so c (I .T) (I .rows) (F₃ .rest) (F₁ .rest) (F₂ .rest) (F₃ .irreducible) (F₁ .irreducible) (F₂ .irreducible) b in
-          subst₂ (Equal F) (F₃ .rest-is) (Typing.raw-++ F L N (F₁ .rest) (F₂ .rest) ∙ (λ i. F₁ .rest-is i ++ F₂ .rest-is i)) (Typing.to-equal F L N (F₃ .rest) (F₁ .rest ++ F₂ .rest) (k ∙ sym (Algebra.at-++ B (F₁ .rest) (F₂ .rest))))
+          subst₂ (Equal F) (F₃ .rest-is) (Typing.raw-++ S W (F₁ .rest) (F₂ .rest) ∙ (λ i. F₁ .rest-is i ++ F₂ .rest-is i)) (Typing.to-equal S W (F₃ .rest) (F₁ .rest ++ F₂ .rest) (k ∙ sym (Algebra.at-++ B (F₁ .rest) (F₂ .rest))))

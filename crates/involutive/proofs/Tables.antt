@@ -19,6 +19,7 @@ use Rattle.monomial.specs.Division.{Split, DivisionLaws, Within, Distinct, Invo
 use Rattle.monomial.specs.Monomial.{width, exponent, variable, times, quotient, Divides}
 use Rattle.involutive.specs.Value
 use Rattle.polynomial.specs.Polynomial.{Poly, term, exponents}
+use Rattle.involutive.specs.Sheet.{Setting, Lawful}
 use Rattle.involutive.specs.Reduction.{Irreducible, row, leaders, Outcome, left, Reduces, done, wide, long, acts}
 use Rattle.involutive.proofs.Algebra
 use Rattle.involutive.proofs.Algebra.{Base, Span}
@@ -28,18 +29,39 @@ use Rattle.involutive.proofs.Monomials.{Mono}
 use Rattle.involutive.proofs.Typing
 use Rattle.involutive.proofs.Typing.{Code, base, Beneath}
 
-module _ (F : FieldMeaning) (L : FieldLaws F) (N : ℕ) (O : Compare) (Q : OrderLaws O) where
+module _ (S : Setting) (W : Lawful S) where
+  abbrev F : FieldMeaning
+  F = S .field
+
+  abbrev L : FieldLaws F
+  L = W .field
+
+  abbrev N : ℕ
+  N = S .variables
+
+  abbrev O : Compare
+  O = S .order
+
+  abbrev Q : OrderLaws O
+  Q = W .order
+
+  abbrev D : Split
+  D = S .division
+
+  abbrev E : DivisionLaws D
+  E = W .division
+
   abbrev pub B : Base
   B = base L N
 
   abbrev pub Typed : Type 0
-  Typed = Typing.Typed F L N
+  Typed = Typing.Typed S W
 
   abbrev pub raw : Typed → Poly
-  raw = Typing.raw F L N
+  raw = Typing.raw S W
 
   abbrev pub lead : Typed → Mono N
-  lead = Typing.lead F L N
+  lead = Typing.lead S W
 
   abbrev pub Sorted : Typed → Type 0
   Sorted = Algebra.Sorted B (Beneath N O)
@@ -55,10 +77,10 @@ module _ (F : FieldMeaning) (L : FieldLaws F) (N : ℕ) (O : Compare) (Q : Order
   sorted-parts (Algebra.more-sorted n b s) = (b, s, n)
 
   pub monic-one : {p : Typed} → Monic p → Algebra.at B p (lead p) ≡ B .𝟙
-  monic-one m = rw (m .is) (Algebra.at-top B (Beneath N O) (Typing.line F L N O Q) (m .head) (m .tail) (sorted-parts (m .sorted) .0) ∙ m .one)
+  monic-one m = rw (m .is) (Algebra.at-top B (Beneath N O) (Typing.line S W) (m .head) (m .tail) (sorted-parts (m .sorted) .0) ∙ m .one)
 
   pub monic-top : {p : Typed} (u : Mono N) → Monic p → Beneath N O (lead p) u → Algebra.at B p u ≡ B .𝟘
-  monic-top {p} u m = rw (m .is) (λ h. Algebra.at-below B (Beneath N O) (Typing.line F L N O Q) (Algebra.more-below h (Algebra.below-up B (Beneath N O) (Typing.line F L N O Q) h (sorted-parts (m .sorted) .0))))
+  monic-top {p} u m = rw (m .is) (λ h. Algebra.at-below B (Beneath N O) (Typing.line S W) (Algebra.more-below h (Algebra.below-up B (Beneath N O) (Typing.line S W) h (sorted-parts (m .sorted) .0))))
 
   abbrev pub nth : List Typed → ℕ → Typed
   nth T k = getD T (k - 1) []
@@ -69,10 +91,10 @@ module _ (F : FieldMeaning) (L : FieldLaws F) (N : ℕ) (O : Compare) (Q : Order
 
   lead-at : (T : List Typed) (i : ℕ) → i < length T → getD (map Value.leading (map raw T)) i [] ≡ lead (getD T i []) .0
   lead-at [] i h = absurd (omega arith)
-  lead-at (p ∷ T) zero h = Typing.raw-lead F L N p
+  lead-at (p ∷ T) zero h = Typing.raw-lead S W p
   lead-at (p ∷ T) (suc i) h = lead-at T i (omega arith)
 
-  module _ (V : Within N 6) (D : Split) (E : DivisionLaws D) (T : List Typed) (G : Good T) where
+  module _ (T : List Typed) (G : Good T) where
     abbrev U : List (List ℕ)
     U = leaders (map raw T)
 
@@ -119,7 +141,7 @@ module _ (F : FieldMeaning) (L : FieldLaws F) (N : ℕ) (O : Compare) (Q : Order
     unique j k a b m n e = row-eq (E .no-two U distinct (Monomials.mul a (lead (nth T (j .0))) .0) (Monomials.mul a (lead (nth T (j .0))) .1 .wide) (j .0) (k .0) (involutive j a m) (subst (λ x. Involutive D U (k .0) (x .0)) (sym e) (involutive k b n)))
 
     pub monic-at : (k : R) → Monic (nth T (k .0))
-    monic-at k = G .monic (nth T (k .0)) (Typing.row-member F L N T (k .0 - 1) (omega arith))
+    monic-at k = G .monic (nth T (k .0)) (Typing.row-member S W T (k .0 - 1) (omega arith))
 
     pub under-one : (m : Mono N) → Dec (m ≡ Monomials.unit) → (m ≡ Monomials.unit) ⊎ Beneath N O Monomials.unit m
     under-one m (yes e) = inl e
@@ -128,9 +150,9 @@ module _ (F : FieldMeaning) (L : FieldLaws F) (N : ℕ) (O : Compare) (Q : Order
     abbrev pub chart : Sums.Chart B
     chart = record {
       _≺_ = Beneath N O;
-      ≺-trans = Typing.under-trans F L N O Q;
-      ≺-irr = Typing.under-irr F L N O Q;
-      ≺-tri = Typing.under-tri F L N O Q;
+      ≺-trans = Typing.under-trans S W;
+      ≺-irr = Typing.under-irr S W;
+      ≺-tri = Typing.under-tri S W;
       ≺-mul = λ a u m h. Q .factor (a .0) (u .0) (m .0) (a .1 .wide) (u .1 .wide) (m .1 .wide) ∙ h;
       ≺-wf = λ m. InvImage·accessible (λ m. (m .0, m .1 .wide)) (Q .falls .apply (m .0, m .1 .wide));
       ≺-one = λ m. under-one m (Monomials.same? m Monomials.unit);
@@ -178,8 +200,8 @@ module _ (F : FieldMeaning) (L : FieldLaws F) (N : ℕ) (O : Compare) (Q : Order
     under-bound : (H : Mono N) (p : Typed) (u : Code F × Mono N) → Sorted p → Bounded H p → List·Memᴰ u p → Sums.Upto B chart H (u .1)
     unfolding Bounded
     under-bound H p u s b h =
-        let r = Algebra.sorted-at B (Beneath N O) (Typing.line F L N O Q) u s h in
-        ⊎-elim (λ l. inl l) (⊎-elim (λ e. inr e) (λ l. absurd (r .1 (sym (r .0) ∙ b (u .1) l)))) (Typing.under-tri F L N O Q (u .1) H)
+        let r = Algebra.sorted-at B (Beneath N O) (Typing.line S W) u s h in
+        ⊎-elim (λ l. inl l) (⊎-elim (λ e. inr e) (λ l. absurd (r .1 (sym (r .0) ∙ b (u .1) l)))) (Typing.under-tri S W (u .1) H)
 
     reduced : {room : ℕ} {h : Poly} {o : Outcome} → Reduces F O D N (map raw T) room h o → (H : Mono N) (p : Typed) → raw p ≡ h → Sorted p → Bounded H p → (g : Poly) → o ≡ left g → Reduced H p g
     unfolding Bounded divisor
@@ -189,14 +211,14 @@ module _ (F : FieldMeaning) (L : FieldLaws F) (N : ℕ) (O : Compare) (Q : Order
     reduced (wide r f) H p e s b g d = let z : _≡_ {A = ℕ} 0 1 = cc in absurd (omega arith)
     reduced (long r f x l) H p e s b g d = let z : _≡_ {A = ℕ} 0 1 = cc in absurd (omega arith)
     reduced (acts {h = h} {g = g′} {t = t} {k = k} r f x l more) H p e s b g d =
-        let u = Typing.raw-term F L N p {t = t} (rw e (r .stands)) in
-        let q = Typing.typed F L N g′ (x .written .over) in
+        let u = Typing.raw-term S W p {t = t} (rw e (r .stands)) in
+        let q = Typing.typed S W g′ (x .written .over) in
         let v = divisor (u .0 .1) k (subst (λ y. Involutive D U k (exponents y)) (u .2) (r .divisor)) in
-        let w : Algebra.at B (q .0) ≡ Algebra._⊕_ B (Algebra.at B p) (Algebra.⊖ B (Algebra.shift B (u .0 .0) (v .a) (Algebra.at B (nth T k)))) = Typing.action-value F L N O D T p (q .0) (u .0) k (rw (e, q .1, ← (u .2)) x) in
+        let w : Algebra.at B (q .0) ≡ Algebra._⊕_ B (Algebra.at B p) (Algebra.⊖ B (Algebra.shift B (u .0 .0) (v .a) (Algebra.at B (nth T k)))) = Typing.action-value S W T p (q .0) (u .0) k (rw (e, q .1, ← (u .2)) x) in
         let n : Sums.Upto B chart H (Monomials.mul (v .a) (lead (nth T k))) = subst (Sums.Upto B chart H) (sym (v .height)) (under-bound H p (u .0) s b (u .1)) in
-        let above : (m : Mono N) → Beneath N O H m → Beneath N O (Monomials.mul (v .a) (lead (nth T k))) m = λ m y. ⊎-elim (λ z. Typing.under-trans F L N O Q (Monomials.mul (v .a) (lead (nth T k))) H m z y) (λ z. subst (λ x. Beneath N O x m) (sym z) y) n in
+        let above : (m : Mono N) → Beneath N O H m → Beneath N O (Monomials.mul (v .a) (lead (nth T k))) m = λ m y. ⊎-elim (λ z. Typing.under-trans S W (Monomials.mul (v .a) (lead (nth T k))) H m z y) (λ z. subst (λ x. Beneath N O x m) (sym z) y) n in
         let b′ : Bounded H (q .0) = λ m y. ap (λ z. z m) w ∙ Algebra.minus-off B (Algebra.at B p) (Algebra.shift B (u .0 .0) (v .a) (Algebra.at B (nth T k))) m (b m y) (Sums.term-above B chart (u .0 .0) (v .a) (v .k) m (above m y)) in
-        let z = reduced more H (q .0) (q .1) (Typing.written-sorted F L N O Q (q .0) (rw (q .1) (x .written))) b′ g d in
+        let z = reduced more H (q .0) (q .1) (Typing.written-sorted S W (q .0) (rw (q .1) (x .written))) b′ g d in
         record {
           poly = z .poly;
           is = z .is;
@@ -218,7 +240,7 @@ module _ (F : FieldMeaning) (L : FieldLaws F) (N : ℕ) (O : Compare) (Q : Order
 
     sum-span : {X : Mono N → Type 0} {v : Algebra.V B} → Sums.Sum B chart X v → Span B T v
     sum-span (Sums.nil e) = Algebra.none e
-    sum-span (Sums.add c k a m q s e) = Algebra.more c a (Typing.row-member F L N T (k .0 - 1) (omega arith)) (sum-span s) e
+    sum-span (Sums.add c k a m q s e) = Algebra.more c a (Typing.row-member S W T (k .0 - 1) (omega arith)) (sum-span s) e
 
     record Rest (h : Mono N) (p : Typed) (g : Poly) : Type 0 where
       poly : Typed
@@ -232,14 +254,14 @@ module _ (F : FieldMeaning) (L : FieldLaws F) (N : ℕ) (O : Compare) (Q : Order
     rest h [] {g} r s b = record { poly = []; is = sym (reduces-nil r refl g refl); sorted = Algebra.none-sorted; below = Algebra.none-below; span = Algebra.none (Algebra.⊕-⊖ B (Algebra.at B [])) }
     rest h (u ∷ p) {g} r s (Algebra.more-below l b) =
         let H : Mono N = u .1 in
-        let above : Bounded H (u ∷ p) = λ m y. Algebra.at-below B (Beneath N O) (Typing.line F L N O Q) (Algebra.more-below y (Algebra.below-up B (Beneath N O) (Typing.line F L N O Q) y (sorted-parts s .0))) in
+        let above : Bounded H (u ∷ p) = λ m y. Algebra.at-below B (Beneath N O) (Typing.line S W) (Algebra.more-below y (Algebra.below-up B (Beneath N O) (Typing.line S W) y (sorted-parts s .0))) in
         let z = reduced r H (u ∷ p) refl s above g refl in
-        let still : Bounded H (z .poly) = λ m y. sym (Algebra.at-same B (Algebra.at B (u ∷ p)) (Algebra.at B (z .poly)) m (Sums.sum-above B chart (Sums.sum-map B chart (λ x. ⊎-elim (λ q. Typing.under-trans F L N O Q x H m q y) (λ q. subst (λ k. Beneath N O k m) (sym q) y)) (z .sum)))) ∙ above m y in
+        let still : Bounded H (z .poly) = λ m y. sym (Algebra.at-same B (Algebra.at B (u ∷ p)) (Algebra.at B (z .poly)) m (Sums.sum-above B chart (Sums.sum-map B chart (λ x. ⊎-elim (λ q. Typing.under-trans S W x H m q y) (λ q. subst (λ k. Beneath N O k m) (sym q) y)) (z .sum)))) ∙ above m y in
         record {
           poly = z .poly;
           is = z .is;
           sorted = z .sorted;
-          below = below-all h (z .poly) (λ t k. ⊎-elim (λ q. Typing.under-trans F L N O Q (t .1) H h q l) (λ q. subst (λ x. Beneath N O x h) (sym q) l) (under-bound H (z .poly) t (z .sorted) still k));
+          below = below-all h (z .poly) (λ t k. ⊎-elim (λ q. Typing.under-trans S W (t .1) H h q l) (λ q. subst (λ x. Beneath N O x h) (sym q) l) (under-bound H (z .poly) t (z .sorted) still k));
           span = sum-span (z .sum);
         }
 
@@ -255,7 +277,7 @@ module _ (F : FieldMeaning) (L : FieldLaws F) (N : ℕ) (O : Compare) (Q : Order
     unfolding Algebra.at
     tidied {room} k {g} r =
         let m = monic-at k in
-        let e : row (map raw T) (k .0) ≡ raw (m .head ∷ m .tail) = Typing.raw-row F L N T (k .0 - 1) ∙ ap raw (m .is) in
+        let e : row (map raw T) (k .0) ≡ raw (m .head ∷ m .tail) = Typing.raw-row S W T (k .0 - 1) ∙ ap raw (m .is) in
         let parts = sorted-parts (m .sorted) in
         let z = rest (m .head .1) (m .tail) (subst (λ x. Reduces F O D N (map raw T) room (drop 1 x) (left g)) e r) (parts .1) (parts .0) in
         record {
@@ -288,7 +310,7 @@ module _ (F : FieldMeaning) (L : FieldLaws F) (N : ℕ) (O : Compare) (Q : Order
         let y : Typed = nth T (k .0) in
         let p : Typed = Algebra.scaled B (B .𝟙) (Monomials.var v vn) y in
         let H : Mono N = Monomials.mul (Monomials.var v vn) (lead y) in
-        let e : raw p ≡ Value.scaled F 1 (variable v) (row (map raw T) (k .0)) = Typing.raw-scaled F L N (B .𝟙) (Monomials.var v vn) y ∙ ap (Value.scaled F 1 (variable v)) (sym (Typing.raw-row F L N T (k .0 - 1))) in
+        let e : raw p ≡ Value.scaled F 1 (variable v) (row (map raw T) (k .0)) = Typing.raw-scaled S W (B .𝟙) (Monomials.var v vn) y ∙ ap (Value.scaled F 1 (variable v)) (sym (Typing.raw-row S W T (k .0 - 1))) in
         let a : Algebra.at B p ≡ Algebra.shift B (B .𝟙) (Monomials.var v vn) (Algebra.at B y) = Algebra.at-scaled B (B .𝟙) (Monomials.var v vn) y in
         let m = monic-at k in
         let z = reduced r H p e (sorted-shift (Monomials.var v vn) (subst Sorted (sym (m .is)) (m .sorted))) (λ u h. ap (λ x. x u) a ∙ Sums.term-above B chart (B .𝟙) (Monomials.var v vn) k u h) [] refl in
@@ -364,7 +386,7 @@ module _ (F : FieldMeaning) (L : FieldLaws F) (N : ℕ) (O : Compare) (Q : Order
 
       -- irreducible polynomials that differ by a member of the ideal are the same
       pub one-remainder : (p q : Typed) → Sorted p → Sorted q → Irreducible F O D N (map raw T) (raw p) → Irreducible F O D N (map raw T) (raw q) → Span B T (Algebra._⊕_ B (Algebra.at B p) (Algebra.⊖ B (Algebra.at B q))) → p ≡ q
-      one-remainder p q s t i j h = Algebra.sorted-eq B (Beneath N O) (Typing.line F L N O Q) s t
+      one-remainder p q s t i j h = Algebra.sorted-eq B (Beneath N O) (Typing.line S W) s t
           (Algebra.minus-zero B (Algebra.at B p) (Algebra.at B q) (Sums.irreducible-zero B chart (span-sum h) (λ k a m. Algebra.minus-off B (Algebra.at B p) (Algebra.at B q) _ (absent p i k a m) (absent q j k a m))))
 
       -- and so is one that differs so from the sum of two
@@ -377,8 +399,8 @@ module _ (F : FieldMeaning) (L : FieldLaws F) (N : ℕ) (O : Compare) (Q : Order
       lead-divisor t p s h =
           let q = sorted-parts s in
           let r = Sums.led B chart (span-sum h) (t .1)
-          (λ z. q .2 (sym (Algebra.at-top B (Beneath N O) (Typing.line F L N O Q) t p (q .0)) ∙ z))
-          (λ u l. Algebra.at-below B (Beneath N O) (Typing.line F L N O Q) (Algebra.more-below l (Algebra.below-up B (Beneath N O) (Typing.line F L N O Q) l (q .0)))) in
+          (λ z. q .2 (sym (Algebra.at-top B (Beneath N O) (Typing.line S W) t p (q .0)) ∙ z))
+          (λ u l. Algebra.at-below B (Beneath N O) (Typing.line S W) (Algebra.more-below l (Algebra.below-up B (Beneath N O) (Typing.line S W) l (q .0)))) in
           (r .k .0, subst (λ x. Involutive D U (r .k .0) (x .0)) (r .height) (involutive (r .k) (r .a) (r .mul)))
 
       -- ---- copies of the rows whose leading monomials are minimal
@@ -419,7 +441,7 @@ module _ (F : FieldMeaning) (L : FieldLaws F) (N : ℕ) (O : Compare) (Q : Order
           one-up a j = ap (Algebra.shift B (B .𝟙) a (Algebra.at B (nth T (j .0)))) (Monomials.mul-comm (leader j) a) ∙ Sums.term-at B chart (B .𝟙) a j
 
           member : (k : R) → List·Memᴰ (nth T (k .0)) T
-          member k = Typing.row-member F L N T (k .0 - 1) (omega arith)
+          member k = Typing.row-member S W T (k .0 - 1) (omega arith)
 
           start : (k : R) → ((j : R) → Beneath N O (leader j) (leader k) → Span B P (Algebra.at B (nth T (j .0)))) → Sums.Start B chart (Span B P) k
           start k ih = go (look k (length T) (omega arith))

@@ -79,7 +79,7 @@ module _ (S : Setting) (W : Lawful S) where
         record { k = r .0; within = w; leads = divides-one (leading (row (s .rows) (r .0))) (Soundness.row-wide S W I (r .0)) (subst (λ x. Divides x one) (Soundness.lead-at (s .rows) (r .0 - 1) (omega arith)) (r .1 .divides)) },
     λ u.
         let h : List·Memᴰ (row (s .rows) (u .k)) (s .rows) = Soundness.row-mem S W (s .rows) (u .k - 1) (omega (arith, u .within .0, u .within .1)) in
-        subst (Member F N (s .rows)) (monic-unit (row (s .rows) (u .k)) (I .each _ h) (u .leads)) (Ideals.member-generator F L N (s .rows) (λ p k. I .each p k .acceptable .written .over) (row (s .rows) (u .k)) h),
+        subst (Member F N (s .rows)) (monic-unit (row (s .rows) (u .k)) (I .each _ h) (u .leads)) (Ideals.member-generator S W (s .rows) (λ p k. I .each p k .acceptable .written .over) (row (s .rows) (u .k)) h),
   )
 
   -- what a program may answer after it has looked at every row
