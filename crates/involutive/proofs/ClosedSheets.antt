@@ -1,7 +1,7 @@
 -- The table of a sound, closed state.
-use mathlib.Core.Path.{_≡_, refl, sym, _∙_, ap, subst, subst₂}
+use mathlib.Core.Path.{_≡_, sym, _∙_, ap, subst, subst₂}
 use mathlib.Core.Bool.{Bool, false}
-use mathlib.Core.List.{List, [], _∷_, _++_, map, List·Memᴰ, List·Memᴰ·head, List·Memᴰ·tail}
+use mathlib.Core.List.{List, [], _∷_, _++_, map, List·Memᴰ}
 use Prim.Native.Nat.{ℕ, suc, _-_}
 use native.Mathlib.Omega.{arith}
 use lib.ListN.{length, getD, length-map}
@@ -27,8 +27,9 @@ use Rattle.involutive.proofs.Typing
 use Rattle.involutive.proofs.Typing.{base}
 use Rattle.involutive.proofs.Ideals
 use Rattle.involutive.proofs.Copying.{CopyOf, Beside, beside, copy-from, copy-to}
-use Rattle.involutive.specs.Sound.{Row, Sound}
+use Rattle.involutive.specs.Sound.{Sound}
 use Rattle.involutive.proofs.Tables
+use Rattle.involutive.proofs.ClosedTables
 
 module _ (S : Setting) (W : Lawful S) where
   abbrev pub F : FieldMeaning
@@ -55,24 +56,6 @@ module _ (S : Setting) (W : Lawful S) where
   abbrev pub st : Table → (ℕ → ℕ → Bool) → State
   st R m = record { rows = R; marks = m }
 
-  pub mem-raw : (T : List Typed) {p : Typed} → List·Memᴰ p T → List·Memᴰ (raw p) (map raw T)
-  mem-raw [] h = elim h [ ]
-  mem-raw (x ∷ T) (List·Memᴰ·head e) = List·Memᴰ·head (ap raw e)
-  mem-raw (x ∷ T) (List·Memᴰ·tail h) = List·Memᴰ·tail (mem-raw T h)
-
-  pub typed-monic : (p : Typed) → Row S (raw p) → Tables.Monic S W p
-  typed-monic [] r = absurd (omega (arith, r .monic))
-  typed-monic (u ∷ p) r = record { head = u; tail = p; is = refl; one = Typing.code-eq (r .monic); sorted = Typing.written-sorted S W (u ∷ p) (r .acceptable .written) }
-
-  pub typed-good : (T : List Typed) (m : ℕ → ℕ → Bool) → Sound S (st (map raw T) m) → Tables.Good S W T
-  typed-good T m I = record {
-    monic = λ p h. typed-monic p (I .each (raw p) (mem-raw T h));
-    once = λ j k w v e. I .once j k (rw (length-map T raw) w) (rw (length-map T raw) v) (led j ∙ ap (λ x. x .0) e ∙ sym (led k));
-  }
-    where
-      led : (k : ℕ) → leading (row (map raw T) k) ≡ Typing.lead S W (getD T (k - 1) []) .0
-      led k = ap leading (Typing.raw-row S W T (k - 1)) ∙ Typing.raw-lead S W (getD T (k - 1) [])
-
   abbrev D : Split
   D = S .division
 
@@ -82,7 +65,7 @@ module _ (S : Setting) (W : Lawful S) where
 
   -- irreducible polynomials that differ by what the rows span are the same
   core′ : (T : List Typed) (m : ℕ → ℕ → Bool) → Sound S (st (map raw T) m) → Closed S (st (map raw T) m) → (p q : Typed) → Written F O N (raw p) → Written F O N (raw q) → Irreducible F O (S .division) N (map raw T) (raw p) → Irreducible F O (S .division) N (map raw T) (raw q) → Span B T (Typing.minus S W p q) → p ≡ q
-  core′ T m I c p q w v i j h = Tables.one-remainder S W T (typed-good T m I) (closing T m I c)
+  core′ T m I c p q w v i j h = ClosedTables.one-remainder S W T (Tables.typed-good S W T m I) (closing T m I c)
       p q (Typing.written-sorted S W p w) (Typing.written-sorted S W q v) i j h
 
   pub core : (R : Table) (m : ℕ → ℕ → Bool) → Sound S (st R m) → Closed S (st R m) → (T : List Typed) → map raw T ≡ R → (p q : Typed) → Written F O N (raw p) → Written F O N (raw q) → Irreducible F O (S .division) N R (raw p) → Irreducible F O (S .division) N R (raw q) → Span B T (Typing.minus S W p q) → p ≡ q
@@ -91,7 +74,7 @@ module _ (S : Setting) (W : Lawful S) where
   -- and one that differs so from a sum of two has the sum's value
   pub core-sum : (R : Table) (m : ℕ → ℕ → Bool) → Sound S (st R m) → Closed S (st R m) → (T : List Typed) → map raw T ≡ R → (p q r : Typed) → Irreducible F O (S .division) N R (raw p) → Irreducible F O (S .division) N R (raw q) → Irreducible F O (S .division) N R (raw r) → Span B T (Algebra._⊕_ B (Algebra.at B p) (Algebra.⊖ B (Algebra._⊕_ B (Algebra.at B q) (Algebra.at B r)))) → Algebra.at B p ≡ Algebra._⊕_ B (Algebra.at B q) (Algebra.at B r)
   core-sum R m I c T e = subst (λ R. Sound S (st R m) → Closed S (st R m) → (p q r : Typed) → Irreducible F O (S .division) N R (raw p) → Irreducible F O (S .division) N R (raw q) → Irreducible F O (S .division) N R (raw r) → Span B T (Algebra._⊕_ B (Algebra.at B p) (Algebra.⊖ B (Algebra._⊕_ B (Algebra.at B q) (Algebra.at B r)))) → Algebra.at B p ≡ Algebra._⊕_ B (Algebra.at B q) (Algebra.at B r)) e
-      (λ I c. Tables.sum-remainder S W T (typed-good T m I) (closing T m I c)) I c
+      (λ I c. ClosedTables.sum-remainder S W T (Tables.typed-good S W T m I) (closing T m I c)) I c
 
   -- ---- the same, of lists of terms
   -- the rows of a sound state are typed
@@ -111,7 +94,7 @@ module _ (S : Setting) (W : Lawful S) where
       go : {t : Term} {f : Poly} (T : List Typed) → Sound S (st (map raw T) (s .marks)) → Closed S (st (map raw T) (s .marks)) → (p : Typed) × (raw p ≡ t ∷ f) → Written F O N (t ∷ f) → Member F N (map raw T) (t ∷ f) → (k : ℕ) × Involutive D (leaders (map raw T)) k (exponents t)
       go T J d ([], e) w m = let z : _≡_ {A = ℕ} 0 (suc _) = ap length e in absurd (omega arith)
       go {t} {f} T J d (u ∷ p, e) w m =
-          let r = Tables.lead-divisor S W T (typed-good T (s .marks) J) (closing T (s .marks) J d) u p (Typing.written-sorted S W (u ∷ p) (subst (Written F O N) (sym e) w)) (Typing.member-span S W T (u ∷ p) (subst (Member F N (map raw T)) (sym e) m)) in
+          let r = ClosedTables.lead-divisor S W T (Tables.typed-good S W T (s .marks) J) (closing T (s .marks) J d) u p (Typing.written-sorted S W (u ∷ p) (subst (Written F O N) (sym e) w)) (Typing.member-span S W T (u ∷ p) (subst (Member F N (map raw T)) (sym e) m)) in
           (r .0, subst (Involutive D (leaders (map raw T)) (r .0)) (ap leading e) (r .1))
 
   -- irreducible polynomials that differ by a member are the same
@@ -128,10 +111,10 @@ module _ (S : Setting) (W : Lawful S) where
 
   -- ---- copies
   abbrev Tidied : (T : List Typed) (m : ℕ → ℕ → Bool) → Sound S (st (map raw T) m) → (k : ℕ) → Within k (length T) → Poly → Type 0
-  Tidied T m I k w f = Tables.Tidied S W T (typed-good T m I) (k, w) f
+  Tidied T m I k w f = Tables.Tidied S W T (Tables.typed-good S W T m I) (k, w) f
 
   tidied : (T : List Typed) (m : ℕ → ℕ → Bool) (I : Sound S (st (map raw T) m)) (k : ℕ) (w : Within k (length T)) {f : Poly} → CopyOf S (st (map raw T) m) k f → Tidied T m I k w f
-  tidied T m I k w {f} c = subst (Tidied T m I k w) (sym (c .is)) (Tables.tidied S W T (typed-good T m I) (k, w) (c .reduced))
+  tidied T m I k w {f} c = subst (Tidied T m I k w) (sym (c .is)) (Tables.tidied S W T (Tables.typed-good S W T m I) (k, w) (c .reduced))
 
   tidied-span : (T : List Typed) (m : ℕ → ℕ → Bool) (I : Sound S (st (map raw T) m)) (k : ℕ) (w : Within k (length T)) {f : Poly} (t : Tidied T m I k w f) → Span B T (Algebra.at B (t .poly))
   tidied-span T m I k w t = Algebra.span-back B _ _ (t .span) (Algebra.span-gen B (Typing.row-member S W T (k - 1) (omega arith)))
@@ -170,13 +153,13 @@ module _ (S : Setting) (W : Lawful S) where
 
       go : (T : List Typed) → Sound S (st (map raw T) m) → Closed S (st (map raw T) m) → Selection S (st (map raw T) m) ks → Copies S (st (map raw T) m) ks (copies fs) → SameIdeal F N (map raw T) fs
       go T J d sel cop = subst (SameIdeal F N (map raw T)) (P .1) (Typing.same-ideal S W T (P .0)
-          (Tables.regenerate-all S W T (typed-good T m J) (closing T m J d) (P .0) (λ k low.
+          (ClosedTables.regenerate-all S W T (Tables.typed-good S W T m J) (closing T m J d) (P .0) (λ k low.
           let a = copy-to S (st (map raw T) m) b (k .0) (sel .minimal (k .0) .1 (lowest-minimal T m J (k .0) (k .1) low)) in
           let t = tidied T m J (k .0) (k .1) (a .copy) in
           let r = Ideals.raw-memᴰ S W (P .0) (subst (List·Memᴰ (a .f)) (sym (P .1)) (a .stands)) in
           record { poly = t .poly; inside = subst (Span B (P .0)) (Typing.same-value S W (r .0) (t .poly) (r .2 ∙ sym (t .is))) (Algebra.span-gen B (r .1)); monic = t .monic; leads = t .leads; span = t .span }))
           (λ h k.
-          let a = copy-from S (st (map raw T) m) b (raw h) (subst (List·Memᴰ (raw h)) (P .1) (mem-raw (P .0) k)) in
+          let a = copy-from S (st (map raw T) m) b (raw h) (subst (List·Memᴰ (raw h)) (P .1) (Tables.mem-raw S W (P .0) k)) in
           let w : Within (a .k) (length T) = rw (length-map T raw) at (sel .minimal (a .k) .0 (a .stands) .within) in
           let t = tidied T m J (a .k) w (a .copy) in
           subst (Span B T) (Typing.same-value S W (t .poly) h (t .is)) (tidied-span T m J (a .k) w t)))

@@ -1,31 +1,34 @@
 -- The rows of a sheet and the generators that it has accepted have the same ideal.
 use mathlib.Core.Path.{_≡_, refl, sym, _∙_, ap, subst, subst₂}
 use mathlib.Core.List.{List, [], _∷_, _++_, map, List·Memᴰ, List·Memᴰ·head, Memᴰ·append-left, Memᴰ·append-right}
-use Prim.Native.Nat.{ℕ, suc, _-_}
+use Prim.Native.Nat.{ℕ, _-_, _<_}
 use native.Mathlib.Omega.{arith}
 use lib.ListN.{length, getD, length-map}
 use mathlib.Core.List.{map-append}
-use Rattle.std.specs.declared.option.Option.the-variants.{None}
 use Rattle.polynomial.specs.declared.term.Term.{Term}
 use Rattle.field.specs.Field.{FieldMeaning, FieldLaws}
 use Rattle.monomial.specs.Monomial.{variable}
 use Rattle.involutive.specs.Value
-use Rattle.polynomial.specs.Polynomial.{Poly, Over, exponents}
+use Rattle.polynomial.specs.Polynomial.{Poly, Over, Written}
 use Rattle.involutive.specs.Ideal.{SameIdeal}
-use Rattle.involutive.specs.Reduction.{row, Outcome, left, Refusal, Reduces, done, wide, long, acts}
+use Rattle.involutive.specs.Reduction.{Irreducible, row, left, Refusal}
 use Rattle.involutive.specs.Answers
 use Rattle.involutive.specs.Sheet.{Setting, State, with-row, prolonged, Lawful}
-use Rattle.involutive.specs.Answers.{first-fault, ReducesTo, Adds, Steps, Answer, rows-now, add-faulty, add-stuck, add-zero, add-full, add-row, step-closed, step-wide, step-stuck, step-mark, step-full, step-row}
+use Rattle.involutive.specs.Answers.{ReducesTo, Adds, Steps, Answer, rows-now, add-faulty, add-stuck, add-zero, add-full, add-row, step-closed, step-wide, step-stuck, step-mark, step-full, step-row}
 use Rattle.involutive.specs.Log.{Call, After, added, not-added, stepped, reduced, shown, copied, judged, made}
 use Rattle.involutive.specs.Complete.{Keeps-ideal}
+use Rattle.monomial.specs.Order.{Compare}
+use Rattle.monomial.specs.Division.{Split}
+use Rattle.involutive.specs.Sound.{Sound}
+use Rattle.involutive.proofs.Soundness
+use Rattle.involutive.proofs.Tables
 use Rattle.involutive.proofs.Algebra
-use Rattle.polynomial.proofs.Checking.{acceptable-from}
 use Rattle.involutive.proofs.Lists
 use Rattle.involutive.proofs.Algebra.{Base, Span}
 use Rattle.involutive.proofs.Monomials
 use Rattle.involutive.proofs.Monomials.{Mono}
 use Rattle.involutive.proofs.Typing
-use Rattle.involutive.proofs.Typing.{Code, base, Nonzero}
+use Rattle.involutive.proofs.Typing.{Code, base}
 
 module _ (S : Setting) (W : Lawful S) where
   abbrev pub F : FieldMeaning
@@ -36,6 +39,12 @@ module _ (S : Setting) (W : Lawful S) where
 
   abbrev pub N : ℕ
   N = S .variables
+
+  abbrev O : Compare
+  O = S .order
+
+  abbrev D : Split
+  D = S .division
 
   abbrev pub B : Base
   B = base L N
@@ -49,31 +58,9 @@ module _ (S : Setting) (W : Lawful S) where
   abbrev pub minus : Typed → Typed → Algebra.V B
   minus = Typing.minus S W
 
-  -- what is left of p
-  pub record Left (T : List Typed) (p : Typed) (g : Poly) : Type 0 where
-    pub poly : Typed
-    pub is : raw poly ≡ g
-    pub nonzero : Nonzero g
-    pub span : Span B T (minus p poly)
-
-  reduces : {room : ℕ} (T : List Typed) {h : Poly} {o : Outcome} → Reduces F (S .order) (S .division) N (map raw T) room h o → (p : Typed) → raw p ≡ h → Nonzero h → (g : Poly) → o ≡ left g → Left T p g
-  reduces T (done i) p e n g d =
-      let f : raw p ≡ g = cc in
-      record { poly = p; is = f; nonzero = subst Nonzero (sym e ∙ f) n; span = Algebra.none (Algebra.⊕-⊖ B (Algebra.at B p)) }
-  reduces T (wide r f) p e n g d = let z : _≡_ {A = ℕ} 0 1 = cc in absurd (omega arith)
-  reduces T (long r f x l) p e n g d = let z : _≡_ {A = ℕ} 0 1 = cc in absurd (omega arith)
-  reduces T (acts {h = h} {g = g′} {t = t} {k = k} r f x l more) p e n g d =
-      let o : Over F N h = subst (Over F N) e (Typing.raw-over S W p) in
-      let q = Typing.typed S W g′ (x .written .over) in
-      let c = o t (r .stands) in
-      let a : Span B T (minus p (q .0)) = Typing.action S W T p (q .0) ((t .coefficient, c .0), (exponents t, c .1)) k (simp (length-map) at (r .divisor .within)) (rw (e, q .1) x) in
-      let s = reduces T more (q .0) (q .1) (x .written .nonzero) g d in
-      record { poly = s .poly; is = s .is; nonzero = s .nonzero; span = Algebra.span-diff B (Algebra.at B p) (Algebra.at B (q .0)) (Algebra.at B (s .poly)) a (s .span) }
-
   pub record Inv (s : State) (gs : List Poly) : Type 0 where
     pub T : List Typed
     pub rows : map raw T ≡ s .rows
-    pub nonzero : (p : Typed) → List·Memᴰ p T → Nonzero (raw p)
     pub G : List Typed
     pub gens : map raw G ≡ gs
     pub into : (p : Typed) → List·Memᴰ p T → Span B G (Algebra.at B p)
@@ -89,12 +76,12 @@ module _ (S : Setting) (W : Lawful S) where
   last T p = Memᴰ·append-right T (List·Memᴰ·head refl)
 
   -- a row more
-  new-row : {s : State} {gs hs : List Poly} {t : Term} {g : Poly} (I : Inv s gs) (H : List Typed) → map raw H ≡ hs → (q : Typed) → raw q ≡ t ∷ g → Nonzero (t ∷ g) → Spans H (I .T) → Span B H (Algebra.at B q) →
+  new-row : {s : State} {gs hs : List Poly} {t : Term} {g : Poly} (I : Inv s gs) (H : List Typed) → map raw H ≡ hs → (q : Typed) → raw q ≡ t ∷ g → 0 < t .coefficient → Spans H (I .T) → Span B H (Algebra.at B q) →
       ((n : List Typed) → Span B (I .T ++ n) (Algebra.at B q) → Spans (I .T ++ n) H) → Inv (with-row S s (t ∷ g)) hs
   new-row {s} {gs} {hs} {t} {g} I H e q d n f h k =
       let o : Over F N (t ∷ g) = subst (Over F N) d (Typing.raw-over S W q) in
       let c : Code F = (t .coefficient, o t (List·Memᴰ·head refl) .0) in
-      let i = Typing.inverse S W c (n t (List·Memᴰ·head refl)) in
+      let i = Typing.inverse S W c n in
       let r : Typed = Algebra.scaled B (i .code) Monomials.unit q in
       let re : raw r ≡ Value.scaled F (F .inv (t .coefficient)) Rattle.monomial.specs.Monomial.one (t ∷ g) = Typing.raw-scaled S W (i .code) Monomials.unit q ∙ (λ j. Value.scaled F (i .is j) Rattle.monomial.specs.Monomial.one (d j)) in
       let ra : Algebra.at B r ≡ Algebra.shift B (i .code) Monomials.unit (Algebra.at B q) = Algebra.at-scaled B (i .code) Monomials.unit q in
@@ -102,65 +89,74 @@ module _ (S : Setting) (W : Lawful S) where
       record {
         T = T′;
         rows = map-append raw (I .T) (r ∷ []) ∙ cc (I .rows, re);
-        nonzero = Lists.both (λ p. Nonzero (raw p)) (I .T) r (I .nonzero) (Typing.nonzero-scaled S W (i .code) Monomials.unit q (i .pos) (subst Nonzero (sym d) n));
         G = H;
         gens = e;
         into = Lists.both (λ p. Span B H (Algebra.at B p)) (I .T) r f (subst (Span B H) (sym ra) (Algebra.span-shift B (i .code) Monomials.unit h));
         from = k (r ∷ []) (subst (Span B T′) (ap (Algebra.shift B c Monomials.unit) ra ∙ Algebra.shift-unit B c (i .code) (i .unit) (Algebra.at B q)) (Algebra.span-shift B c Monomials.unit (Algebra.span-gen B (last (I .T) r))));
       }
 
-  pub left-over : {s : State} {gs : List Poly} (I : Inv s gs) {room : ℕ} {h g : Poly} → ReducesTo S s room h (left g) → (p : Typed) → raw p ≡ h → Nonzero h → Left (I .T) p g
-  left-over I {room} {h} {g} r p e n = reduces {room = room} (I .T) {h = h} {o = left g} (rw (I .rows) r) p e n g refl
+  -- the rows are those of a sound sheet
+  abbrev Rows : State → List Typed → Type 0
+  Rows s T = Sound S (record { rows = map raw T; marks = s .marks })
 
-  nothing-left : (p : Typed) → raw p ≡ [] → Algebra.at B p ≡ Algebra.𝟎 B
-  unfolding Algebra.at
-  nothing-left [] e = refl
-  nothing-left (t ∷ p) e = let z : suc (length (raw p)) ≡ 0 = ap length e in absurd (omega arith)
+  rows-sound : {s : State} {gs : List Poly} (I : Inv s gs) → Sound S s → Rows s (I .T)
+  rows-sound {s} I so = subst (λ R. Sound S (record { rows = R; marks = s .marks })) (sym (I .rows)) so
 
-  pub no-fault : (f : Poly) → first-fault S f ≡ None → (p : Typed) × (raw p ≡ f) × Nonzero f
-  no-fault f e =
-      let w = acceptable-from F (S .order) N f e .written in
+  pub record Left (s : State) (T : List Typed) (p : Typed) (g : Poly) : Type 0 where
+    pub poly : Typed
+    pub is : raw poly ≡ g
+    pub written : Written F O N g
+    pub irreducible : Irreducible F O D N (s .rows) g
+    pub span : Span B T (Typing.minus S W p poly)
+
+  -- what is left of a written polynomial
+  pub left-over : {s : State} {gs : List Poly} (I : Inv s gs) → Sound S s → {room : ℕ} {h g : Poly} → ReducesTo S s room h (left g) → (p : Typed) → raw p ≡ h → Written F O N h → Left s (I .T) p g
+  left-over {s} I so {room} {h} {g} r p e w =
+      let z = Tables.left-over S W (I .T) (Tables.typed-good S W (I .T) (s .marks) (rows-sound I so)) {room = room} p {g = g} (rw (I .rows, e) r) (Typing.written-sorted S W p (rw e w)) in
+      record { poly = z .poly; is = z .is; written = subst (Written F O N) (z .is) (Typing.sorted-written S W (z .poly) (z .sorted)); irreducible = subst (λ R. Irreducible F O D N R g) (I .rows) (z .irreducible); span = z .span }
+
+  first-positive : {t : Term} {g : Poly} → Written F O N (t ∷ g) → 0 < t .coefficient
+  first-positive {t} w = w .nonzero t (List·Memᴰ·head refl)
+
+  adds : {s s′ : State} {gs : List Poly} {f : Poly} {n : ℕ} → Inv s gs → Sound S s → Adds S s f (rows-now n) s′ → Inv s′ (gs ++ (f ∷ []))
+  adds {s} {gs = gs} {f = f} I so (add-zero e r) =
+      let w = Soundness.no-fault S W f e .written in
       let p = Typing.typed S W f (w .over) in
-      (p .0, p .1, w .nonzero)
-
-  adds : {s s′ : State} {gs : List Poly} {f : Poly} {n : ℕ} → Inv s gs → Adds S s f (rows-now n) s′ → Inv s′ (gs ++ (f ∷ []))
-  adds {s} {gs = gs} {f = f} I (add-zero e r) =
-      let p = no-fault f e in
-      let l = left-over I r (p .0) (p .1) (p .2) in
+      let l = left-over I so r (p .0) (p .1) w in
       record {
         T = I .T;
         rows = I .rows;
-        nonzero = I .nonzero;
         G = I .G ++ (p .0 ∷ []);
         gens = map-append raw (I .G) (p .0 ∷ []) ∙ cc (I .gens, p .1);
         into = λ x m. wider (p .0 ∷ []) (I .into x m);
-        from = Lists.both (λ x. Span B (I .T) (Algebra.at B x)) (I .G) (p .0) (I .from) (Algebra.span-from B _ _ (l .span) (Algebra.none (nothing-left (l .poly) (l .is))));
+        from = Lists.both (λ x. Span B (I .T) (Algebra.at B x)) (I .G) (p .0) (I .from) (Algebra.span-from B _ _ (l .span) (Algebra.none (Typing.nothing S W (l .poly) (l .is))));
       }
-  adds {s} {gs = gs} {f = f} I (add-row {t = t} {g = g} e r m) =
-      let p = no-fault f e in
-      let l = left-over I r (p .0) (p .1) (p .2) in
+  adds {s} {gs = gs} {f = f} I so (add-row {t = t} {g = g} e r m) =
+      let w = Soundness.no-fault S W f e .written in
+      let p = Typing.typed S W f (w .over) in
+      let l = left-over I so r (p .0) (p .1) w in
       let H : List Typed = I .G ++ (p .0 ∷ []) in
       let i : Spans H (I .T) = λ x m. wider (p .0 ∷ []) (I .into x m) in
-      new-row I H (map-append raw (I .G) (p .0 ∷ []) ∙ cc (I .gens, p .1)) (l .poly) (l .is) (l .nonzero) i
+      new-row I H (map-append raw (I .G) (p .0 ∷ []) ∙ cc (I .gens, p .1)) (l .poly) (l .is) (first-positive (l .written)) i
       (Algebra.span-back B _ _ (Algebra.span-trans B i (l .span)) (Algebra.span-gen B (last (I .G) (p .0))))
       (λ n q. Lists.both (λ x. Span B (I .T ++ n) (Algebra.at B x)) (I .G) (p .0) (λ x m. wider n (I .from x m)) (Algebra.span-from B _ _ (wider n (l .span)) q))
 
-  steps : {s s′ : State} {gs : List Poly} {a : Answer} → Inv s gs → Steps S s a s′ → Inv s′ gs
-  steps I (step-closed c) = I
-  steps I (step-wide c f) = I
-  steps I (step-stuck c f r) = I
-  steps I (step-mark c f r) = record { T = I .T; rows = I .rows; nonzero = I .nonzero; G = I .G; gens = I .gens; into = I .into; from = I .from }
-  steps I (step-full c f r m) = I
-  steps {s} I (step-row {k = k} {v = v} {t = t} {g = g} c f r m) =
+  steps : {s s′ : State} {gs : List Poly} {a : Answer} → Inv s gs → Sound S s → Steps S s a s′ → Inv s′ gs
+  steps I so (step-closed c) = I
+  steps I so (step-wide c f) = I
+  steps I so (step-stuck c f r) = I
+  steps I so (step-mark c f r) = record { T = I .T; rows = I .rows; G = I .G; gens = I .gens; into = I .into; from = I .from }
+  steps I so (step-full c f r m) = I
+  steps {s} I so (step-row {k = k} {v = v} {t = t} {g = g} c f r m) =
       let x : Mono N = Monomials.var v (c .pair .at-variable) in
       let y : Typed = getD (I .T) (k - 1) [] in
       let p : Typed = Algebra.scaled B (B .𝟙) x y in
       let e : raw p ≡ prolonged S s k v = Typing.raw-scaled S W (B .𝟙) x y ∙ ap (Value.scaled F 1 (variable v)) (sym (Typing.raw-row S W (I .T) (k - 1)) ∙ ap (λ R. row R k) (I .rows)) in
       let w : length (I .T) ≡ length (s .rows) = sym (length-map (I .T) raw) ∙ ap length (I .rows) in
       let h : List·Memᴰ y (I .T) = Typing.row-member S W (I .T) (k - 1) (omega arith) in
-      let l = left-over I r p e (subst Nonzero e (Typing.nonzero-scaled S W (B .𝟙) x y (omega arith) (I .nonzero y h))) in
+      let l = left-over I so r p e (Soundness.prolonged-written S W so k v (c .pair .at-variable)) in
       let q : Span B (I .T) (Algebra.at B p) = subst (Span B (I .T)) (sym (Algebra.at-scaled B (B .𝟙) x y)) (Algebra.span-shift B (B .𝟙) x (Algebra.span-gen B h)) in
-      new-row I (I .G) (I .gens) (l .poly) (l .is) (l .nonzero) (I .into) (Algebra.span-trans B (I .into) (Algebra.span-back B _ _ (l .span) q)) (λ n q z m. wider n (I .from z m))
+      new-row I (I .G) (I .gens) (l .poly) (l .is) (first-positive (l .written)) (I .into) (Algebra.span-trans B (I .into) (Algebra.span-back B _ _ (l .span) q)) (λ n q z m. wider n (I .from z m))
 
   same : {s s′ : State} {gs : List Poly} {f : Poly} {r : Refusal} → Inv s gs → Adds S s f (Answers.denied r) s′ → Inv s′ gs
   same I (add-faulty e) = I
@@ -168,10 +164,10 @@ module _ (S : Setting) (W : Lawful S) where
   same I (add-full e r m) = I
 
   pub inv : {calls : List Call} {s : State} {gs : List Poly} → After S calls s gs → Inv s gs
-  inv made = record { T = []; rows = refl; nonzero = λ p h. elim h [ ]; G = []; gens = refl; into = λ p h. elim h [ ]; from = λ p h. elim h [ ] }
-  inv (added a h) = adds (inv a) h
+  inv made = record { T = []; rows = refl; G = []; gens = refl; into = λ p h. elim h [ ]; from = λ p h. elim h [ ] }
+  inv (added a h) = adds (inv a) (Soundness.sound S W a) h
   inv (not-added a h) = same (inv a) h
-  inv (stepped a h) = steps (inv a) h
+  inv (stepped a h) = steps (inv a) (Soundness.sound S W a) h
   inv (reduced a h) = inv a
   inv (shown a h) = inv a
   inv (copied a h) = inv a

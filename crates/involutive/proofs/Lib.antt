@@ -8,6 +8,7 @@ pub mod Bytes
 pub mod Sums
 pub mod Walks
 pub mod Tables
+pub mod ClosedTables
 pub mod Soundness
 pub mod Copying
 pub mod ClosedSheets

@@ -26,7 +26,7 @@ use Rattle.involutive.proofs.Typing
 use Rattle.involutive.proofs.Typing.{base}
 use Rattle.involutive.proofs.KeptIdeal
 use Rattle.involutive.specs.Sound.{Sound}
-use Rattle.involutive.proofs.Soundness.{reduces-written, no-fault, sound}
+use Rattle.involutive.proofs.Soundness.{no-fault, sound}
 use Rattle.involutive.proofs.ClosedSheets
 
 module _ (S : Setting) (W : Lawful S) where
@@ -80,13 +80,13 @@ module _ (S : Setting) (W : Lawful S) where
     good : Written F O N (raw rest)
     irreducible : Irreducible F O (S .division) N (s .rows) (raw rest)
 
-  got : {s : State} {gs : List Poly} {f r : Poly} (I : KeptIdeal.Inv S W s gs) → Granted S s f r → Got s (I .T) f r
-  got {s} {gs} {f} {r} I G =
+  got : {s : State} {gs : List Poly} {f r : Poly} (I : KeptIdeal.Inv S W s gs) → Sound S s → Granted S s f r → Got s (I .T) f r
+  got {s} {gs} {f} {r} I so G =
       let x = granted G in
-      let p = KeptIdeal.no-fault S W f (x .0) in
-      let l = KeptIdeal.left-over S W I (x .1) (p .0) (p .1) (p .2) in
-      let w = reduces-written S W (x .1) (no-fault S W f (x .0) .written) r refl in
-      record { poly = p .0; is = p .1; rest = l .poly; rest-is = l .is; span = l .span; good = subst (Written F O N) (sym (l .is)) (w .0); irreducible = subst (Irreducible F O (S .division) N (s .rows)) (sym (l .is)) (w .1) }
+      let w = no-fault S W f (x .0) .written in
+      let p = Typing.typed S W f (w .over) in
+      let l = KeptIdeal.left-over S W I so (x .1) (p .0) (p .1) w in
+      record { poly = p .0; is = p .1; rest = l .poly; rest-is = l .is; span = l .span; good = subst (Written F O N) (sym (l .is)) (l .written); irreducible = subst (Irreducible F O (S .division) N (s .rows)) (sym (l .is)) (l .irreducible) }
 
   -- where f − g is spanned, the remainders are the same
   same-rests : {s : State} {gs : List Poly} {f g r t : Poly} (I : KeptIdeal.Inv S W s gs) → Sound S s → Closed S s → (A : Got s (I .T) f r) (C : Got s (I .T) g t) → Span B (I .T) (Typing.minus S W (A .poly) (C .poly)) → r ≡ t
@@ -95,7 +95,7 @@ module _ (S : Setting) (W : Lawful S) where
       sym (A .rest-is) ∙ ap raw (ClosedSheets.core S W (s .rows) (s .marks) so c (I .T) (I .rows) (A .rest) (C .rest) (A .good) (C .good) (A .irreducible) (C .irreducible) b) ∙ C .rest-is
 
   pub decide : Remainders-decide S
-  decide calls s gs a c f g r t G H = let I = KeptIdeal.inv S W a in go I (sound S W a) (got I G) (got I H)
+  decide calls s gs a c f g r t G H = let I = KeptIdeal.inv S W a in go I (sound S W a) (got I (sound S W a) G) (got I (sound S W a) H)
     where
       go : (I : KeptIdeal.Inv S W s gs) → Sound S s → Got s (I .T) f r → Got s (I .T) g t → (r ≡ t) ↔ Member F N gs (Value.minus F f g)
       go I so F₁ F₂ =
@@ -113,7 +113,7 @@ module _ (S : Setting) (W : Lawful S) where
           )
 
   pub multiply : Remainders-multiply S
-  multiply calls s gs a c f g h p r t u w e d G₁ G₂ G₃ G₄ = let I = KeptIdeal.inv S W a in go I (sound S W a) (got I G₁) (got I G₂) (got I G₃) (got I G₄)
+  multiply calls s gs a c f g h p r t u w e d G₁ G₂ G₃ G₄ = let I = KeptIdeal.inv S W a in go I (sound S W a) (got I (sound S W a) G₁) (got I (sound S W a) G₂) (got I (sound S W a) G₃) (got I (sound S W a) G₄)
     where
       go : (I : KeptIdeal.Inv S W s gs) → Sound S s → Got s (I .T) f r → Got s (I .T) g t → Got s (I .T) h u → Got s (I .T) p w → u ≡ w
       go I so F₁ F₂ F₃ F₄ =
@@ -123,7 +123,7 @@ module _ (S : Setting) (W : Lawful S) where
           same-rests I so c F₃ F₄ z
 
   pub add : Remainders-add S
-  add calls s gs a c f g h r t u e G₁ G₂ G₃ = let I = KeptIdeal.inv S W a in go I (sound S W a) (got I G₁) (got I G₂) (got I G₃)
+  add calls s gs a c f g h r t u e G₁ G₂ G₃ = let I = KeptIdeal.inv S W a in go I (sound S W a) (got I (sound S W a) G₁) (got I (sound S W a) G₂) (got I (sound S W a) G₃)
     where
       go : (I : KeptIdeal.Inv S W s gs) → Sound S s → Got s (I .T) f r → Got s (I .T) g t → Got s (I .T) h u → Equal F u (Value.plus r t)
       go I so F₁ F₂ F₃ =

@@ -1,25 +1,23 @@
--- A table of monic rows with distinct leading monomials, and reducing by it.
+-- A table of monic rows with distinct leading monomials, and what reducing by it leaves.
 use mathlib.Core.Path.{_≡_, refl, sym, _∙_, ap, subst}
 use mathlib.Core.HLevel.{Σ-prop-path, ×-prop}
-use mathlib.Core.Bool.{Bool, true, false}
+use mathlib.Core.Bool.{Bool, true}
 use mathlib.Core.List.{List, [], _∷_, _++_, map, List·Memᴰ, List·Memᴰ·head, List·Memᴰ·tail, List·Memᴰ·not-nil}
 use mathlib.Core.Logic.{_⊎_, inl, inr, ⊎-elim}
-use mathlib.Core.WellFounded.{Acc, InvImage·accessible}
-use native.Mathlib.Decide.{decLt}
-use Rattle.involutive.proofs.Walks
-use Prim.Native.Nat.{ℕ, zero, suc, _-_, _≤_, _<_}
+use mathlib.Core.WellFounded.{InvImage·accessible}
+use Prim.Native.Nat.{ℕ, zero, suc, _-_, _<_}
 use native.Mathlib.Bridge.{le-prop}
 use native.Mathlib.Omega.{arith}
 use lib.ListN.{length, getD, length-map, take, drop}
-use Rattle.std.proofs.shelf.Tests.{cases-eq}
 use Rattle.std.specs.declared.option.Option.the-variants.{Some}
 use Rattle.field.specs.Field.{FieldMeaning, FieldLaws}
 use Rattle.monomial.specs.Order.{Compare, OrderLaws}
-use Rattle.monomial.specs.Division.{Split, DivisionLaws, Within, Distinct, Involutive, Next, member}
-use Rattle.monomial.specs.Monomial.{width, exponent, variable, times, quotient, Divides}
+use Rattle.monomial.specs.Division.{Split, DivisionLaws, Within, Distinct, Involutive, member}
+use Rattle.monomial.specs.Monomial.{width, exponent, variable, quotient, Divides}
 use Rattle.involutive.specs.Value
 use Rattle.polynomial.specs.Polynomial.{Poly, term, exponents}
 use Rattle.involutive.specs.Sheet.{Setting, Lawful}
+use Rattle.involutive.specs.Sound.{Row, Sound}
 use Rattle.involutive.specs.Reduction.{Irreducible, row, leaders, Outcome, left, Reduces, done, wide, long, acts}
 use Rattle.involutive.proofs.Algebra
 use Rattle.involutive.proofs.Algebra.{Base, Span}
@@ -89,40 +87,59 @@ module _ (S : Setting) (W : Lawful S) where
     pub monic : (p : Typed) → List·Memᴰ p T → Monic p
     pub once : (j k : ℕ) → Within j (length T) → Within k (length T) → lead (nth T j) ≡ lead (nth T k) → j ≡ k
 
+  pub mem-raw : (T : List Typed) {p : Typed} → List·Memᴰ p T → List·Memᴰ (raw p) (map raw T)
+  mem-raw [] h = elim h [ ]
+  mem-raw (x ∷ T) (List·Memᴰ·head e) = List·Memᴰ·head (ap raw e)
+  mem-raw (x ∷ T) (List·Memᴰ·tail h) = List·Memᴰ·tail (mem-raw T h)
+
+  typed-monic : (p : Typed) → Row S (raw p) → Monic p
+  typed-monic [] r = absurd (omega (arith, r .monic))
+  typed-monic (u ∷ p) r = record { head = u; tail = p; is = refl; one = Typing.code-eq (r .monic); sorted = Typing.written-sorted S W (u ∷ p) (r .acceptable .written) }
+
+  -- the rows of a sound sheet are such a table
+  pub typed-good : (T : List Typed) (m : ℕ → ℕ → Bool) → Sound S (record { rows = map raw T; marks = m }) → Good T
+  typed-good T m I = record {
+    monic = λ p h. typed-monic p (I .each (raw p) (mem-raw T h));
+    once = λ j k w v e. I .once j k (rw (length-map T raw) w) (rw (length-map T raw) v) (led j ∙ ap (λ x. x .0) e ∙ sym (led k));
+  }
+    where
+      led : (k : ℕ) → Value.leading (row (map raw T) k) ≡ lead (getD T (k - 1) []) .0
+      led k = ap Value.leading (Typing.raw-row S W T (k - 1)) ∙ Typing.raw-lead S W (getD T (k - 1) [])
+
   lead-at : (T : List Typed) (i : ℕ) → i < length T → getD (map Value.leading (map raw T)) i [] ≡ lead (getD T i []) .0
   lead-at [] i h = absurd (omega arith)
   lead-at (p ∷ T) zero h = Typing.raw-lead S W p
   lead-at (p ∷ T) (suc i) h = lead-at T i (omega arith)
 
   module _ (T : List Typed) (G : Good T) where
-    abbrev U : List (List ℕ)
+    abbrev pub U : List (List ℕ)
     U = leaders (map raw T)
 
     size : length U ≡ length T
     size = simp length-map
 
-    member-lead : (k : ℕ) → Within k (length T) → member U k ≡ lead (nth T k) .0
+    pub member-lead : (k : ℕ) → Within k (length T) → member U k ≡ lead (nth T k) .0
     member-lead k w = lead-at T (k - 1) (omega arith)
 
-    in-U : {k : ℕ} → Within k (length T) → Within k (length U)
+    pub in-U : {k : ℕ} → Within k (length T) → Within k (length U)
     in-U w = rw size w
 
-    out-U : {k : ℕ} → Within k (length U) → Within k (length T)
+    pub out-U : {k : ℕ} → Within k (length U) → Within k (length T)
     out-U w = rw size at w
 
-    distinct : Distinct U
+    pub distinct : Distinct U
     distinct = record {
       wide = λ k w. rw (member-lead k (out-U w)) (lead (nth T k) .1 .wide);
       once = λ j k w v e. G .once j k (out-U w) (out-U v) (Monomials.mono-eq (sym (member-lead j (out-U w)) ∙ e ∙ member-lead k (out-U v)));
     }
 
-    abbrev R : Type 0
+    abbrev pub R : Type 0
     R = (k : ℕ) × Within k (length T)
 
-    abbrev Mul : R → Mono N → Type 0
+    abbrev pub Mul : R → Mono N → Type 0
     Mul k a = (v : ℕ) → Within v N → 0 < exponent (a .0) v → D U (k .0) v ≡ Some true
 
-    involutive : (k : R) (a : Mono N) → Mul k a → Involutive D U (k .0) (Monomials.mul a (lead (nth T (k .0))) .0)
+    pub involutive : (k : R) (a : Mono N) → Mul k a → Involutive D U (k .0) (Monomials.mul a (lead (nth T (k .0))) .0)
     involutive k a m =
         let l : Mono N = lead (nth T (k .0)) in
         let e : member U (k .0) ≡ l .0 = member-lead (k .0) (k .1) in
@@ -165,7 +182,7 @@ module _ (S : Setting) (W : Lawful S) where
       unique = unique;
     }
 
-    abbrev SumUpto : Mono N → Algebra.V B → Type 0
+    abbrev pub SumUpto : Mono N → Algebra.V B → Type 0
     SumUpto H v = Sums.Sum B chart (Sums.Upto B chart H) v
 
     -- a term's involutive divisor, as a row and a multiplier
@@ -242,17 +259,24 @@ module _ (S : Setting) (W : Lawful S) where
     sum-span (Sums.nil e) = Algebra.none e
     sum-span (Sums.add c k a m q s e) = Algebra.more c a (Typing.row-member S W T (k .0 - 1) (omega arith)) (sum-span s) e
 
-    record Rest (h : Mono N) (p : Typed) (g : Poly) : Type 0 where
-      poly : Typed
-      is : raw poly ≡ g
-      sorted : Sorted poly
-      below : Algebra.Below B (Beneath N O) h poly
-      span : Span B T (Algebra._⊕_ B (Algebra.at B p) (Algebra.⊖ B (Algebra.at B poly)))
+    -- what is left of p; where p's terms stand below a monomial, so do its own
+    pub record LeftOver (p : Typed) (g : Poly) : Type 0 where
+      pub poly : Typed
+      pub is : raw poly ≡ g
+      pub sorted : Sorted poly
+      pub irreducible : Irreducible F O D N (map raw T) g
+      pub span : Span B T (Typing.minus S W p poly)
+      pub below : (h : Mono N) → Algebra.Below B (Beneath N O) h p → Algebra.Below B (Beneath N O) h poly
 
-    rest : {room : ℕ} (h : Mono N) (p : Typed) {g : Poly} → Reduces F O D N (map raw T) room (raw p) (left g) → Sorted p → Algebra.Below B (Beneath N O) h p → Rest h p g
+    first-below : {h : Mono N} {u : Code F × Mono N} {p : Typed} → Algebra.Below B (Beneath N O) h (u ∷ p) → Beneath N O (u .1) h
+    first-below (Algebra.more-below l b) = l
+
+    pub left-over : {room : ℕ} (p : Typed) {g : Poly} → Reduces F O D N (map raw T) room (raw p) (left g) → Sorted p → LeftOver p g
     unfolding Bounded
-    rest h [] {g} r s b = record { poly = []; is = sym (reduces-nil r refl g refl); sorted = Algebra.none-sorted; below = Algebra.none-below; span = Algebra.none (Algebra.⊕-⊖ B (Algebra.at B [])) }
-    rest h (u ∷ p) {g} r s (Algebra.more-below l b) =
+    left-over [] {g} r s =
+        let e : [] ≡ g = sym (reduces-nil r refl g refl) in
+        record { poly = []; is = e; sorted = Algebra.none-sorted; irreducible = subst (Irreducible F O D N (map raw T)) e (λ t h. elim h [ ]); span = Algebra.none (Algebra.⊕-⊖ B (Algebra.at B [])); below = λ h b. b }
+    left-over (u ∷ p) {g} r s =
         let H : Mono N = u .1 in
         let above : Bounded H (u ∷ p) = λ m y. Algebra.at-below B (Beneath N O) (Typing.line S W) (Algebra.more-below y (Algebra.below-up B (Beneath N O) (Typing.line S W) y (sorted-parts s .0))) in
         let z = reduced r H (u ∷ p) refl s above g refl in
@@ -261,8 +285,10 @@ module _ (S : Setting) (W : Lawful S) where
           poly = z .poly;
           is = z .is;
           sorted = z .sorted;
-          below = below-all h (z .poly) (λ t k. ⊎-elim (λ q. Typing.under-trans S W (t .1) H h q l) (λ q. subst (λ x. Beneath N O x h) (sym q) l) (under-bound H (z .poly) t (z .sorted) still k));
+          irreducible = z .irreducible;
           span = sum-span (z .sum);
+          below = λ h b. let l = first-below b in
+              below-all h (z .poly) (λ t k. ⊎-elim (λ q. Typing.under-trans S W (t .1) H h q l) (λ q. subst (λ x. Beneath N O x h) (sym q) l) (under-bound H (z .poly) t (z .sorted) still k));
         }
 
     -- a row whose terms but the first are reduced
@@ -279,11 +305,11 @@ module _ (S : Setting) (W : Lawful S) where
         let m = monic-at k in
         let e : row (map raw T) (k .0) ≡ raw (m .head ∷ m .tail) = Typing.raw-row S W T (k .0 - 1) ∙ ap raw (m .is) in
         let parts = sorted-parts (m .sorted) in
-        let z = rest (m .head .1) (m .tail) (subst (λ x. Reduces F O D N (map raw T) room (drop 1 x) (left g)) e r) (parts .1) (parts .0) in
+        let z = left-over (m .tail) (subst (λ x. Reduces F O D N (map raw T) room (drop 1 x) (left g)) e r) (parts .1) in
         record {
           poly = m .head ∷ z .poly;
           is = ap {B = Poly} (λ x. term (m .head .0 .0) (m .head .1 .0) ∷ x) (z .is) ∙ ap (λ x. take 1 x ++ g) (sym e);
-          monic = record { head = m .head; tail = z .poly; is = refl; one = m .one; sorted = Algebra.more-sorted (parts .2) (z .below) (z .sorted) };
+          monic = record { head = m .head; tail = z .poly; is = refl; one = m .one; sorted = Algebra.more-sorted (parts .2) (z .below (m .head .1) (parts .0)) (z .sorted) };
           leads = ap lead (sym (m .is));
           span = subst (λ x. Span B T (Algebra._⊕_ B (Algebra.at B x) (Algebra.⊖ B (Algebra.at B (m .head ∷ z .poly))))) (sym (m .is)) (subst (Span B T) (sym (Algebra.minus-front B (Algebra.single B (m .head .0) (m .head .1)) (Algebra.at B (m .tail)) (Algebra.at B (z .poly)))) (z .span));
         }
@@ -298,13 +324,8 @@ module _ (S : Setting) (W : Lawful S) where
     sorted-shift x Algebra.none-sorted = Algebra.none-sorted
     sorted-shift x (Algebra.more-sorted {t = t} n b s) = Algebra.more-sorted (λ e. n (sym (B .1* (t .0)) ∙ e)) (below-shift x (t .1) b) (sorted-shift x s)
 
-    nothing : (p : Typed) → raw p ≡ [] → Algebra.at B p ≡ Algebra.𝟎 B
-    unfolding Algebra.at
-    nothing [] e = refl
-    nothing (t ∷ p) e = let z : suc (length (raw p)) ≡ 0 = ap length e in absurd (omega arith)
-
     -- the prolongation of row k by a variable, if it reduces to nothing, is a sum no higher than it is
-    prolonged-sum : {room : ℕ} (k : R) (v : ℕ) (vn : Within v N) → Reduces F O D N (map raw T) room (Value.scaled F 1 (variable v) (row (map raw T) (k .0))) (left []) → SumUpto (Monomials.mul (Monomials.var v vn) (lead (nth T (k .0)))) (Algebra.shift B (B .𝟙) (Monomials.var v vn) (Algebra.at B (nth T (k .0))))
+    pub prolonged-sum : {room : ℕ} (k : R) (v : ℕ) (vn : Within v N) → Reduces F O D N (map raw T) room (Value.scaled F 1 (variable v) (row (map raw T) (k .0))) (left []) → SumUpto (Monomials.mul (Monomials.var v vn) (lead (nth T (k .0)))) (Algebra.shift B (B .𝟙) (Monomials.var v vn) (Algebra.at B (nth T (k .0))))
     unfolding Bounded
     prolonged-sum {room} k v vn r =
         let y : Typed = nth T (k .0) in
@@ -314,163 +335,4 @@ module _ (S : Setting) (W : Lawful S) where
         let a : Algebra.at B p ≡ Algebra.shift B (B .𝟙) (Monomials.var v vn) (Algebra.at B y) = Algebra.at-scaled B (B .𝟙) (Monomials.var v vn) y in
         let m = monic-at k in
         let z = reduced r H p e (sorted-shift (Monomials.var v vn) (subst Sorted (sym (m .is)) (m .sorted))) (λ u h. ap (λ x. x u) a ∙ Sums.term-above B chart (B .𝟙) (Monomials.var v vn) k u h) [] refl in
-        subst (SumUpto H) (ap (λ x. Algebra._⊕_ B (Algebra.at B p) (Algebra.⊖ B x)) (nothing (z .poly) (z .is)) ∙ ap (Algebra._⊕_ B (Algebra.at B p)) (Algebra.⊖-0 B) ∙ Algebra.⊕0 B (Algebra.at B p) ∙ a) (z .sum)
-
-    -- ---- a variable of a that is not multiplicative for row k, or none
-    record Other (k : R) (a : Mono N) (n : ℕ) : Type 0 where
-      v : ℕ
-      within : Within v n
-      inside : 0 < exponent (a .0) v
-      not-multiplicative : D U (k .0) v ≡ Some false
-
-    scan : (k : R) (a : Mono N) (n : ℕ) → n ≤ N → ((v : ℕ) → Within v n → 0 < exponent (a .0) v → D U (k .0) v ≡ Some true) ⊎ Other k a n
-    scan k a zero h = inl (λ v w i. absurd (omega arith))
-    scan k a (suc n) h = go (scan k a n (omega arith)) (decLt 0 (exponent (a .0) (suc n))) (E .answers U (k .0) (suc n) (in-U (k .1)) (omega arith, omega arith))
-      where
-        go : ((v : ℕ) → Within v n → 0 < exponent (a .0) v → D U (k .0) v ≡ Some true) ⊎ Other k a n → Dec (0 < exponent (a .0) (suc n)) → (b : Bool) × (D U (k .0) (suc n) ≡ Some b) →
-            ((v : ℕ) → Within v (suc n) → 0 < exponent (a .0) v → D U (k .0) v ≡ Some true) ⊎ Other k a (suc n)
-        go (inr o) d b = inr (record { v = o .v; within = (o .within .0, omega arith); inside = o .inside; not-multiplicative = o .not-multiplicative })
-        go (inl f) (no d) b = inl (λ v w i. ⊎-elim (λ e. absurd (d (subst (λ x. 0 < exponent (a .0) x) e i))) (λ e. f v (w .0, omega arith) i) (cases-eq v (suc n)))
-        go (inl f) (yes d) (true, b) = inl (λ v w i. ⊎-elim (λ e. ap (D U (k .0)) e ∙ b) (λ e. f v (w .0, omega arith) i) (cases-eq v (suc n)))
-        go (inl f) (yes d) (false, b) = inr (record { v = suc n; within = (omega arith, omega arith); inside = d; not-multiplicative = b })
-
-    mem-index : (T : List Typed) {g : Typed} → List·Memᴰ g T → (i : ℕ) × (i < length T) × (g ≡ getD T i [])
-    mem-index [] h = elim h [ ]
-    mem-index (p ∷ T) (List·Memᴰ·head e) = (0, omega arith, e)
-    mem-index (p ∷ T) (List·Memᴰ·tail h) = let r = mem-index T h in (suc (r .0), omega arith, r .2)
-
-    abbrev NextRow : R → R → Type 0
-    NextRow k j = Next D U (k .0) (j .0)
-
-    -- ---- the table of a closed sheet: each prolongation by a variable that is not multiplicative reduces to nothing
-    module _ (closed : (k v : ℕ) → Within k (length T) → Within v N → D U k v ≡ Some false → (room : ℕ) × Reduces F O D N (map raw T) room (Value.scaled F 1 (variable v) (row (map raw T) k)) (left [])) where
-      not-zero : B .𝟙 ≡ B .𝟘 → ⊥
-      not-zero e = let z : _≡_ {A = ℕ} 1 0 = ap (λ x. x .0) e in omega arith
-
-      split : (k : R) (a : Mono N) → Mul k a ⊎ Sums.Prolongation B chart NextRow k a
-      split k a = ⊎-elim (λ m. inl m) (λ o. inr (go o)) (scan k a N (omega arith))
-        where
-          go : Other k a N → Sums.Prolongation B chart NextRow k a
-          go o =
-              let x : Mono N = Monomials.var (o .v) (o .within) in
-              let c = closed (k .0) (o .v) (k .1) (o .within) (o .not-multiplicative) in
-              Sums.prolongation B chart not-zero k a x (Monomials.over a x)
-              (sym (Monomials.mul-over x a (Monomials.variable-divides a (o .v) (o .within .0, omega arith) (o .inside))) ∙ Monomials.mul-comm x (Monomials.over a x))
-              (prolonged-sum k (o .v) (o .within) (c .1))
-              (λ j b m e. record {
-                from = in-U (k .1);
-                by = o .v;
-                by-within = (o .within .0, omega arith);
-                not-multiplicative = o .not-multiplicative;
-                divisor = subst (λ y. Involutive D U (j .0) y) (ap (λ y. y .0) e ∙ ap (times (variable (o .v))) (sym (member-lead (k .0) (k .1)))) (involutive j b m);
-              })
-
-      row-wf : (k : R) → Acc (λ j k. NextRow k j) k
-      row-wf k = InvImage·accessible (λ k. k .0) (Walks.next-wf D U (λ k w. E .no-return U distinct k w) (k .0))
-
-      span-sum : {v : Algebra.V B} → Span B T v → Sums.Sum B chart (λ m. Unit) v
-      span-sum (Algebra.none e) = Sums.nil e
-      span-sum (Algebra.more {w = w} {g = g} c a h s e) =
-          let i = mem-index T h in
-          let k : R = (suc (i .0), omega arith) in
-          let d : g ≡ nth T (k .0) = i .2 ∙ ap (λ x. getD T x []) (omega arith) in
-          subst (Sums.Sum B chart (λ m. Unit)) (sym (e ∙ ap (λ x. Algebra._⊕_ B (Algebra.shift B c a (Algebra.at B x)) w) d)) (Sums.sum-⊕ B chart (Sums.sum-map B chart (λ m y. tt) (Sums.tame B chart NextRow row-wf split c k a)) (span-sum s))
-
-      absent : (p : Typed) → Irreducible F O D N (map raw T) (raw p) → Sums.Irreducible B chart (Algebra.at B p)
-      absent p h k a m = Algebra.at-absent B p (Monomials.mul a (lead (nth T (k .0)))) (λ t i e. h (term (t .0 .0) (t .1 .0)) (raw-mem p i) (k .0) (subst (λ y. Involutive D U (k .0) (y .0)) (sym e) (involutive k a m)))
-        where
-          raw-mem : (p : Typed) {t : Code F × Mono N} → List·Memᴰ t p → List·Memᴰ (term (t .0 .0) (t .1 .0)) (raw p)
-          raw-mem [] i = elim i [ ]
-          raw-mem (s ∷ p) (List·Memᴰ·head e) = List·Memᴰ·head (ap (λ t. term (t .0 .0) (t .1 .0)) e)
-          raw-mem (s ∷ p) (List·Memᴰ·tail i) = List·Memᴰ·tail (raw-mem p i)
-
-      -- irreducible polynomials that differ by a member of the ideal are the same
-      pub one-remainder : (p q : Typed) → Sorted p → Sorted q → Irreducible F O D N (map raw T) (raw p) → Irreducible F O D N (map raw T) (raw q) → Span B T (Algebra._⊕_ B (Algebra.at B p) (Algebra.⊖ B (Algebra.at B q))) → p ≡ q
-      one-remainder p q s t i j h = Algebra.sorted-eq B (Beneath N O) (Typing.line S W) s t
-          (Algebra.minus-zero B (Algebra.at B p) (Algebra.at B q) (Sums.irreducible-zero B chart (span-sum h) (λ k a m. Algebra.minus-off B (Algebra.at B p) (Algebra.at B q) _ (absent p i k a m) (absent q j k a m))))
-
-      -- and so is one that differs so from the sum of two
-      pub sum-remainder : (p q r : Typed) → Irreducible F O D N (map raw T) (raw p) → Irreducible F O D N (map raw T) (raw q) → Irreducible F O D N (map raw T) (raw r) → Span B T (Algebra._⊕_ B (Algebra.at B p) (Algebra.⊖ B (Algebra._⊕_ B (Algebra.at B q) (Algebra.at B r)))) → Algebra.at B p ≡ Algebra._⊕_ B (Algebra.at B q) (Algebra.at B r)
-      sum-remainder p q r i j k h = Algebra.minus-zero B (Algebra.at B p) (Algebra._⊕_ B (Algebra.at B q) (Algebra.at B r)) (Sums.irreducible-zero B chart (span-sum h)
-          (λ l a m. Algebra.minus-off B (Algebra.at B p) (Algebra._⊕_ B (Algebra.at B q) (Algebra.at B r)) _ (absent p i l a m) (Algebra.plus-off B (Algebra.at B q) (Algebra.at B r) _ (absent q j l a m) (absent r k l a m))))
-
-      -- the leading monomial of a member has an involutive divisor
-      pub lead-divisor : (t : Code F × Mono N) (p : Typed) → Sorted (t ∷ p) → Span B T (Algebra.at B (t ∷ p)) → (k : ℕ) × Involutive D U k (t .1 .0)
-      lead-divisor t p s h =
-          let q = sorted-parts s in
-          let r = Sums.led B chart (span-sum h) (t .1)
-          (λ z. q .2 (sym (Algebra.at-top B (Beneath N O) (Typing.line S W) t p (q .0)) ∙ z))
-          (λ u l. Algebra.at-below B (Beneath N O) (Typing.line S W) (Algebra.more-below l (Algebra.below-up B (Beneath N O) (Typing.line S W) l (q .0)))) in
-          (r .k .0, subst (λ x. Involutive D U (r .k .0) (x .0)) (r .height) (involutive (r .k) (r .a) (r .mul)))
-
-      -- ---- copies of the rows whose leading monomials are minimal
-      abbrev pub leader : R → Mono N
-      leader k = lead (nth T (k .0))
-
-      abbrev pub Lowest : R → Type 0
-      Lowest k = (j : R) (a : Mono N) → leader k ≡ Monomials.mul (leader j) a → j .0 ≡ k .0
-
-      pub record Copy (P : List Typed) (k : R) : Type 0 where
-        pub poly : Typed
-        pub inside : Span B P (Algebra.at B poly)
-        pub monic : Monic poly
-        pub leads : lead poly ≡ leader k
-        pub span : Span B T (Algebra._⊕_ B (Algebra.at B (nth T (k .0))) (Algebra.⊖ B (Algebra.at B poly)))
-
-      record Lower (k : R) : Type 0 where
-        j : R
-        other : j .0 ≡ k .0 → ⊥
-        a : Mono N
-        is : leader k ≡ Monomials.mul (leader j) a
-
-      look : (k : R) (n : ℕ) → n ≤ length T → ((j : R) → j .0 ≤ n → (a : Mono N) → leader k ≡ Monomials.mul (leader j) a → j .0 ≡ k .0) ⊎ Lower k
-      look k zero h = inl (λ j l. absurd (omega arith))
-      look k (suc n) h = go (look k n (omega arith)) (cases-eq (suc n) (k .0)) (Monomials.divide (leader (suc n, (omega arith, h))) (leader k))
-        where
-          go : ((j : R) → j .0 ≤ n → (a : Mono N) → leader k ≡ Monomials.mul (leader j) a → j .0 ≡ k .0) ⊎ Lower k → (suc n ≡ k .0) ⊎ (suc n ≡ k .0 → ⊥) → Dec ((a : Mono N) × (leader k ≡ Monomials.mul (leader (suc n, (omega arith, h))) a)) →
-              ((j : R) → j .0 ≤ suc n → (a : Mono N) → leader k ≡ Monomials.mul (leader j) a → j .0 ≡ k .0) ⊎ Lower k
-          go (inr o) e d = inr o
-          go (inl f) (inl e) d = inl (λ j l a i. ⊎-elim (λ x. x ∙ e) (λ x. f j (omega arith) a i) (cases-eq (j .0) (suc n)))
-          go (inl f) (inr e) (yes d) = inr (record { j = (suc n, (omega arith, h)); other = e; a = d .0; is = d .1 })
-          go (inl f) (inr e) (no d) = inl (λ j l a i. ⊎-elim (λ x. absurd (d (a, i ∙ ap (λ y. Monomials.mul (lead (nth T y)) a) x))) (λ x. f j (omega arith) a i) (cases-eq (j .0) (suc n)))
-
-      pub regenerate : (P : List Typed) → ((k : R) → Lowest k → Copy P k) → (k : R) → Span B P (Algebra.at B (nth T (k .0)))
-      regenerate P copy = Sums.generated B chart (Span B P) (λ v e. Algebra.none e) (λ v w p q. Algebra.span-⊕ B p q) (λ c a v p. Algebra.span-shift B c a p) start
-        where
-          one-up : (a : Mono N) (j : R) → Algebra.shift B (B .𝟙) a (Algebra.at B (nth T (j .0))) (Monomials.mul (leader j) a) ≡ B .𝟙
-          one-up a j = ap (Algebra.shift B (B .𝟙) a (Algebra.at B (nth T (j .0)))) (Monomials.mul-comm (leader j) a) ∙ Sums.term-at B chart (B .𝟙) a j
-
-          member : (k : R) → List·Memᴰ (nth T (k .0)) T
-          member k = Typing.row-member S W T (k .0 - 1) (omega arith)
-
-          start : (k : R) → ((j : R) → Beneath N O (leader j) (leader k) → Span B P (Algebra.at B (nth T (j .0)))) → Sums.Start B chart (Span B P) k
-          start k ih = go (look k (length T) (omega arith))
-            where
-              go : ((j : R) → j .0 ≤ length T → (a : Mono N) → leader k ≡ Monomials.mul (leader j) a → j .0 ≡ k .0) ⊎ Lower k → Sums.Start B chart (Span B P) k
-              go (inl f) =
-                  let c = copy k (λ j a e. f j (j .1 .1) a e) in
-                  record {
-                    value = Algebra.at B (c .poly);
-                    inside = c .inside;
-                    one-at = subst (λ x. Algebra.at B (c .poly) x ≡ B .𝟙) (c .leads) (monic-one (c .monic));
-                    top-at = λ m l. monic-top m (c .monic) (subst (λ x. Beneath N O x m) (sym (c .leads)) l);
-                    sum = span-sum (c .span);
-                  }
-              go (inr o) =
-                  let v : Algebra.V B = Algebra.shift B (B .𝟙) (o .a) (Algebra.at B (nth T (o .j .0))) in
-                  let e : Monomials.mul (o .a) (leader (o .j)) ≡ leader k = Monomials.mul-comm (o .a) (leader (o .j)) ∙ sym (o .is) in
-                  let l : Beneath N O (leader (o .j)) (leader k) = ⊎-elim (λ d. absurd (o .other (G .once (o .j .0) (k .0) (o .j .1) (k .1) (d ∙ e)))) (λ d. subst (Beneath N O (leader (o .j))) e d) (Sums.raise B chart (o .a) (leader (o .j))) in
-                  record {
-                    value = v;
-                    inside = Algebra.span-shift B (B .𝟙) (o .a) (ih (o .j) l);
-                    one-at = ap v (o .is) ∙ one-up (o .a) (o .j);
-                    top-at = λ m d. Sums.term-above B chart (B .𝟙) (o .a) (o .j) m (subst (λ x. Beneath N O x m) (sym e) d);
-                    sum = span-sum (Algebra.span-⊕ B (Algebra.span-gen B (member k)) (Algebra.span-⊖ B (Algebra.span-shift B (B .𝟙) (o .a) (Algebra.span-gen B (member (o .j))))));
-                  }
-
-      pub regenerate-all : (P : List Typed) → ((k : R) → Lowest k → Copy P k) → (g : Typed) → List·Memᴰ g T → Span B P (Algebra.at B g)
-      regenerate-all P copy g h =
-          let i = mem-index T h in
-          let k : R = (suc (i .0), omega arith) in
-          let d : g ≡ nth T (k .0) = i .2 ∙ ap (λ x. getD T x []) (omega arith) in
-          subst (λ x. Span B P (Algebra.at B x)) (sym d) (regenerate P copy k)
+        subst (SumUpto H) (ap (λ x. Algebra._⊕_ B (Algebra.at B p) (Algebra.⊖ B x)) (Typing.nothing S W (z .poly) (z .is)) ∙ ap (Algebra._⊕_ B (Algebra.at B p)) (Algebra.⊖-0 B) ∙ Algebra.⊕0 B (Algebra.at B p) ∙ a) (z .sum)

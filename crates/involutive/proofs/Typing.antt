@@ -19,7 +19,7 @@ use Rattle.polynomial.specs.Polynomial.{Poly, term, exponents, Over, Falling, m
 use Rattle.involutive.specs.Value.{Equal}
 use Rattle.monomial.specs.Order.{Compare, OrderLaws, Under}
 use Rattle.std.specs.Orderings.{reversed}
-use Rattle.monomial.specs.Division.{Split, Within}
+use Rattle.monomial.specs.Division.{Split}
 use Rattle.involutive.specs.Reduction.{multiple, Difference}
 use Rattle.involutive.specs.Sheet.{Setting, Lawful}
 use Rattle.involutive.specs.Ideal.{combination, Member, SameIdeal}
@@ -157,6 +157,12 @@ module _ (S : Setting) (W : Lawful S) where
   pub same-value : (p q : Typed) → raw p ≡ raw q → Algebra.at B p ≡ Algebra.at B q
   same-value p q e = from-equal p q (λ m. ap (λ x. Value.at F x m) e)
 
+  pub nothing : (p : Typed) → raw p ≡ [] → Algebra.at B p ≡ Algebra.𝟎 B
+  unfolding Algebra.at
+  nothing [] e = refl
+  nothing (t ∷ p) e = let z : suc (length (raw p)) ≡ 0 = ap length e in absurd (omega arith)
+
+  -- the value of a difference
   abbrev pub minus : Typed → Typed → Algebra.V B
   minus p q = Algebra._⊕_ B (Algebra.at B p) (Algebra.⊖ B (Algebra.at B q))
 
@@ -284,10 +290,6 @@ module _ (S : Setting) (W : Lawful S) where
       let s : Typed = Algebra.scaled B (t .0) a r in
       let e : Algebra.at B g ≡ Algebra.at B (h ++ Algebra.negated B s) = from-equal g (h ++ Algebra.negated B s) (rw (raw-minus h s, ← (raw-multiple T t k)) (d .value)) in
       e ∙ Algebra.at-++ B h (Algebra.negated B s) ∙ ap (Algebra._⊕_ B (Algebra.at B h)) (Algebra.at-negated B s ∙ ap (Algebra.⊖ B) (Algebra.at-scaled B (t .0) a r))
-
-  pub action : (T : List Typed) (h g : Typed) (t : Code F × Mono N) (k : ℕ) → Within k (length T) → Difference F O D N (map raw T) (raw h) (multiple F O D N (map raw T) (term (t .0 .0) (t .1 .0)) k) (raw g) → Span B T (Algebra._⊕_ B (Algebra.at B h) (Algebra.⊖ B (Algebra.at B g)))
-  action T h g t k w d =
-      Algebra.span-action B (t .0) (Monomials.over (t .1) (lead (getD T (k - 1) []))) (Algebra.at B h) (Algebra.at B g) (row-member T (k - 1) (omega arith)) (action-value T h g t k d)
 
   pub raw-term : (p : Typed) {t : Term} → List·Memᴰ t (raw p) → (u : Code F × Mono N) × List·Memᴰ u p × (t ≡ term (u .0 .0) (u .1 .0))
   raw-term [] h = elim h [ ]
