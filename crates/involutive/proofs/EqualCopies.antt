@@ -27,7 +27,7 @@ use Rattle.involutive.proofs.Bytes
 use Rattle.involutive.proofs.Copying.{CopyOf, Beside, no-more, one-more, beside, copy-from, copy-to}
 use Rattle.involutive.proofs.Soundness
 use Rattle.involutive.specs.Sound.{Sound}
-use Rattle.involutive.proofs.ClosedSheets
+use Rattle.involutive.proofs.Sheets
 use Rattle.involutive.proofs.KeptIdeal
 
 divides-trans : (u m n : List ℕ) → Divides u m → Divides m n → Divides u n
@@ -112,8 +112,8 @@ module _ (S : Setting) (W : Lawful S) where
         let p = Soundness.first-term (set D) (lawful E) (row (A .s .rows) k) r in
         record { tail = p .0; is = p .1; good = r .acceptable .written }
 
-    rows-over : (p : Poly) → List·Memᴰ p (A .s .rows) → Over F N p
-    rows-over p h = A .sound .each p h .acceptable .written .over
+    rows-over : Ideals.Overs F N (A .s .rows)
+    rows-over = Sheets.rows-over (set D) (lawful E) (A .sound)
 
     row-member : (k : ℕ) → In-rows k → Member F N (A .s .rows) (row (A .s .rows) k)
     row-member k w = Ideals.member-generator S W (A .s .rows) rows-over (row (A .s .rows) k) (Soundness.row-mem (set D) (lawful E) (A .s .rows) (k - 1) (omega arith))
@@ -132,7 +132,7 @@ module _ (S : Setting) (W : Lawful S) where
 
     shown : (t : Term) (f : Poly) → Written F O N (t ∷ f) → Member F N (A .s .rows) (t ∷ f) → Row (exponents t)
     shown t f w h =
-        let r = ClosedSheets.lead-divisor (set D) (lawful E) (A .s) (A .sound) (A .closed) t f w h in
+        let r = Sheets.lead-divisor (set D) (lawful E) (A .s) (A .sound) (A .closed) t f w h in
         let v : In-rows (r .0) = rw (length-map (A .s .rows) leading) at (r .1 .within) in
         record { k = r .0; within = v; divides = subst (λ x. Divides x (exponents t)) (Soundness.lead-at (A .s .rows) (r .0 - 1) (omega arith)) (r .1 .divides) }
 
@@ -183,7 +183,7 @@ module _ (S : Setting) (W : Lawful S) where
         let pw : Written F O N p = Soundness.written-scaled (set D) (lawful E) 1 a (omega arith) (L .differ) an (row (A .s .rows) k) (f .good) in
         let pm : Member F N (A .s .rows) p = Ideals.member-scaled S W 1 a (L .differ) an (A .s .rows) (rows-over A) (row (A .s .rows) k) (f .good .over) (row-member A k n) in
         let e : p ≡ scaled F 1 a (term 1 (lm A k) ∷ f .tail) = ap (scaled F 1 a) (f .is) in
-        let r = ClosedSheets.lead-divisor (set D′) (lawful E′) (C .s) (C .sound) (C .closed) (term (F .mul 1 1) (times a (lm A k))) (scaled F 1 a (f .tail)) (subst (Written F O N) e pw) (subst (Member F N (C .s .rows)) e (i p (pw .over) pm)) in
+        let r = Sheets.lead-divisor (set D′) (lawful E′) (C .s) (C .sound) (C .closed) (term (F .mul 1 1) (times a (lm A k))) (scaled F 1 a (f .tail)) (subst (Written F O N) e pw) (subst (Member F N (C .s .rows)) e (i p (pw .over) pm)) in
         let q : times a (lm A k) ≡ exponents t = Monomials.times-comm a (lm A k) ∙ Monomials.times-quotient (lm A k) (exponents t) (wide-lm A k ∙ sym (c .wide)) (λ x. let y : suc x - 1 ≡ x = omega arith in rw y at (l (suc x))) in
         h t m (r .0) (subst (Involutive D′ (leaders (C .s .rows)) (r .0)) q (r .1))
 
@@ -198,14 +198,14 @@ module _ (S : Setting) (W : Lawful S) where
         let y = Soundness.reduces-written (set D′) (lawful E′) (c .copy .reduced) (Soundness.tail-written (set D′) (lawful E′) (C .sound) (t .k′)) (c .copy .rest) refl in
         let e : f ≡ term 1 (lm A (a .k)) ∷ a .copy .rest = copy-is A (a .k) (m .within) (a .copy) in
         let d : c .f ≡ term 1 (lm A (a .k)) ∷ c .copy .rest = copy-is C (t .k′) (t .minimal .within) (c .copy) ∙ ap (λ z. term 1 z ∷ c .copy .rest) (sym (t .same)) in
-        let u = ClosedSheets.fair (set D) (lawful E) (A .s) (A .sound) (a .k) (m .within) (a .copy) in
-        let v = ClosedSheets.fair (set D′) (lawful E′) (C .s) (C .sound) (t .k′) (t .minimal .within) (c .copy) in
+        let u = Sheets.fair (set D) (lawful E) (A .s) (A .sound) (a .k) (m .within) (a .copy) in
+        let v = Sheets.fair (set D′) (lawful E′) (C .s) (C .sound) (t .k′) (t .minimal .within) (c .copy) in
         let o : Over F N (term 1 (lm A (a .k)) ∷ a .copy .rest) = subst (Over F N) e (u .good .over) in
         let n : Member F N (A .s .rows) (minus F (a .copy .rest) (c .copy .rest)) = Ideals.member-tails S W (term 1 (lm A (a .k))) (o _ (List·Memᴰ·head refl)) (A .s .rows) (rows-over A) (a .copy .rest) (x .0 .over) (c .copy .rest) (y .0 .over) (subst (Member F N (A .s .rows)) e (u .member)) (subst (Member F N (A .s .rows)) d (j (c .f) (v .good .over) (v .member))) in
-        let g : a .copy .rest ≡ c .copy .rest = ClosedSheets.one-remainder (set D) (lawful E) (A .s) (A .sound) (A .closed) (a .copy .rest) (c .copy .rest) (x .0) (y .0) (x .1) (irreducible (c .copy .rest) (y .0) (y .1)) n in
+        let g : a .copy .rest ≡ c .copy .rest = Sheets.one-remainder (set D) (lawful E) (A .s) (A .sound) (A .closed) (a .copy .rest) (c .copy .rest) (x .0) (y .0) (x .1) (irreducible (c .copy .rest) (y .0) (y .1)) n in
         subst (λ z. List·Memᴰ z (C .fs)) (d ∙ ap (λ z. term 1 (lm A (a .k)) ∷ z) (sym g) ∙ sym e) (c .stands)
 
-  -- ---- the copies rise
+  -- the copies rise
   abbrev Lower : Poly → Poly → Type 0
   Lower f g = Wide (leading f) × Wide (leading g) × Under O (leading f) (leading g)
 
@@ -229,16 +229,10 @@ module _ (S : Setting) (W : Lawful S) where
     rising = rise (Soundness.rising-up (set D) (lawful E) (A .sound) (A .selection .rising)) (A .copied) (in-rows A)
 
     wides : (f : Poly) → List·Memᴰ f (A .fs) → Bytes.Wides f
-    wides f h t m = let a = copy-from (set D) (A .s) (A .copied) f h in ClosedSheets.fair (set D) (lawful E) (A .s) (A .sound) (a .k) (in-rows A (a .k) (a .stands)) (a .copy) .good .over t m .1 .wide
+    wides f h t m = let a = copy-from (set D) (A .s) (A .copied) f h in Sheets.fair (set D) (lawful E) (A .s) (A .sound) (a .k) (in-rows A (a .k) (a .stands)) (a .copy) .good .over t m .1 .wide
 
   same-copies : {D D′ : Split} {E : DivisionLaws D} {E′ : DivisionLaws D′} (A : Side D E) (C : Side D′ E′) → Inside A C → Inside C A → A .fs ≡ C .fs
   same-copies A C i j = Lists.up-eq Lower lower-asym (rising A) (rising C) (into A C i j) (into C A j i)
-
-  turned : {gs hs : List Poly} → SameIdeal F N gs hs → SameIdeal F N hs gs
-  turned h f o = (h f o .1, h f o .0)
-
-  chain : {fs gs hs : List Poly} → SameIdeal F N fs gs → SameIdeal F N gs hs → SameIdeal F N fs hs
-  chain h k f o = (λ m. k f o .0 (h f o .0 m), λ m. h f o .1 (k f o .1 m))
 
   -- a sheet that a log has closed, with its granted copy
   module _ {D : Split} (E : DivisionLaws D) {calls : List Call} {s : State} {gs : List Poly} (a : After (set D) calls s gs) (c : Closed (set D) s) {b : List ℕ} (G : GrantedCopy (set D) s b) where
@@ -252,7 +246,7 @@ module _ (S : Setting) (W : Lawful S) where
 
     side-copies : SameIdeal F N (side .fs) gs
     unfolding side
-    side-copies = let H = granted (set D) s b G in chain (turned (ClosedSheets.copies-ideal (set D) (lawful E) s (Soundness.sound (set D) (lawful E) a) c (H .ks) (H .fs) (H .selection) (H .copied))) side-rows
+    side-copies = let H = granted (set D) s b G in Ideals.chain S W (Ideals.turned S W (Sheets.copies-ideal (set D) (lawful E) s (Soundness.sound (set D) (lawful E) a) c (H .ks) (H .fs) (H .selection) (H .copied))) side-rows
 
     side-bytes : b ≡ copy-bytes (side .fs)
     unfolding side
@@ -267,8 +261,8 @@ module _ (S : Setting) (W : Lawful S) where
       let q : b′ ≡ copy-bytes (C .fs) = side-bytes E a′ c′ G′ in (
         λ e.
             let d : A .fs ≡ C .fs = Bytes.same-copies (A .fs) (C .fs) (wides A) (wides C) (sym p ∙ e ∙ q) in
-            chain (turned (side-copies (W .division) a c G)) (subst (λ fs. SameIdeal F N fs hs) (sym d) (side-copies E a′ c′ G′)),
+            Ideals.chain S W (Ideals.turned S W (side-copies (W .division) a c G)) (subst (λ fs. SameIdeal F N fs hs) (sym d) (side-copies E a′ c′ G′)),
         λ h.
-            let i : SameIdeal F N (s .rows) (s′ .rows) = chain (side-rows (W .division) a c G) (chain h (turned (side-rows E a′ c′ G′))) in
+            let i : SameIdeal F N (s .rows) (s′ .rows) = Ideals.chain S W (side-rows (W .division) a c G) (Ideals.chain S W h (Ideals.turned S W (side-rows E a′ c′ G′))) in
             p ∙ ap copy-bytes (same-copies A C (λ f o m. i f o .0 m) (λ f o m. i f o .1 m)) ∙ sym q,
       )

@@ -1,180 +1,135 @@
--- The rows of a sheet and the generators that it has accepted have the same ideal.
-use mathlib.Core.Path.{_≡_, refl, sym, _∙_, ap, subst, subst₂}
-use mathlib.Core.List.{List, [], _∷_, _++_, map, List·Memᴰ, List·Memᴰ·head, Memᴰ·append-left, Memᴰ·append-right}
+-- The rows of a sheet and the generators that it has accepted have the same ideal, after every call.
+use mathlib.Core.Path.{refl, sym, subst}
+use mathlib.Core.List.{List, [], _∷_, _++_, List·Memᴰ, List·Memᴰ·head, List·Memᴰ·cases-cons, Memᴰ·append-left, Memᴰ·append-right, List·Memᴰ·append-cases}
+use mathlib.Core.Logic.{⊎-elim}
 use Prim.Native.Nat.{ℕ, _-_, _<_}
 use native.Mathlib.Omega.{arith}
-use lib.ListN.{length, getD, length-map}
-use mathlib.Core.List.{map-append}
-use Rattle.polynomial.specs.declared.term.Term.{Term}
 use Rattle.field.specs.Field.{FieldMeaning, FieldLaws}
-use Rattle.monomial.specs.Monomial.{variable}
-use Rattle.involutive.specs.Value
-use Rattle.polynomial.specs.Polynomial.{Poly, Over, Written}
-use Rattle.involutive.specs.Ideal.{SameIdeal}
-use Rattle.involutive.specs.Reduction.{Irreducible, row, left, Refusal}
-use Rattle.involutive.specs.Answers
-use Rattle.involutive.specs.Sheet.{Setting, State, with-row, prolonged, Lawful}
-use Rattle.involutive.specs.Answers.{ReducesTo, Adds, Steps, Answer, rows-now, add-faulty, add-stuck, add-zero, add-full, add-row, step-closed, step-wide, step-stuck, step-mark, step-full, step-row}
-use Rattle.involutive.specs.Log.{Call, After, added, not-added, stepped, reduced, shown, copied, judged, made}
-use Rattle.involutive.specs.Complete.{Keeps-ideal}
+use Rattle.monomial.specs.Monomial.{one, variable}
 use Rattle.monomial.specs.Order.{Compare}
-use Rattle.monomial.specs.Division.{Split}
+use Rattle.polynomial.specs.declared.term.Term.{Term}
+use Rattle.polynomial.specs.Polynomial.{Poly, Over, Written}
+use Rattle.involutive.specs.Value.{scaled, minus, negated}
+use Rattle.involutive.specs.Ideal.{Member, SameIdeal}
+use Rattle.involutive.specs.Reduction.{Table, row, Refusal}
+use Rattle.involutive.specs.Sheet.{Setting, Lawful, State, prolonged}
+use Rattle.involutive.specs.Answers.{Answer, rows-now, denied, Adds, Steps, add-faulty, add-stuck, add-zero, add-full, add-row, step-closed, step-wide, step-stuck, step-mark, step-full, step-row}
+use Rattle.involutive.specs.Log.{Call, After, made, added, not-added, stepped, reduced, shown, copied, judged}
 use Rattle.involutive.specs.Sound.{Sound}
-use Rattle.involutive.proofs.Soundness
-use Rattle.involutive.proofs.Tables
-use Rattle.involutive.proofs.Algebra
-use Rattle.involutive.proofs.Lists
-use Rattle.involutive.proofs.Algebra.{Base, Span}
+use Rattle.involutive.specs.Complete.{Keeps-ideal}
 use Rattle.involutive.proofs.Monomials
-use Rattle.involutive.proofs.Monomials.{Mono}
-use Rattle.involutive.proofs.Typing
-use Rattle.involutive.proofs.Typing.{Code, base}
+use Rattle.involutive.proofs.Ideals
+use Rattle.involutive.proofs.Ideals.{Overs}
+use Rattle.involutive.proofs.Soundness
+use Rattle.involutive.proofs.Sheets
 
 module _ (S : Setting) (W : Lawful S) where
-  abbrev pub F : FieldMeaning
+  abbrev F : FieldMeaning
   F = S .field
 
-  abbrev pub L : FieldLaws F
+  abbrev L : FieldLaws F
   L = W .field
 
-  abbrev pub N : ℕ
+  abbrev N : ℕ
   N = S .variables
 
   abbrev O : Compare
   O = S .order
 
-  abbrev D : Split
-  D = S .division
+  -- the ideal of the rows, and that the generators are polynomials
+  pub record Keeps (s : State) (gs : List Poly) : Type 0 where
+    pub over : Overs F N gs
+    pub same : SameIdeal F N (s .rows) gs
 
-  abbrev pub B : Base
-  B = base L N
+  alone : (f : Poly) → Over F N f → Overs F N (f ∷ [])
+  alone f o g h = ⊎-elim (λ e. subst (Over F N) (sym e) o) (λ k. elim k [ ]) (List·Memᴰ·cases-cons h)
 
-  abbrev pub Typed : Type 0
-  Typed = Typing.Typed S W
+  only : {gs : List Poly} (f : Poly) → Member F N gs f → (g : Poly) → List·Memᴰ g (f ∷ []) → Member F N gs g
+  only {gs} f m g h = ⊎-elim (λ e. subst (Member F N gs) (sym e) m) (λ k. elim k [ ]) (List·Memᴰ·cases-cons h)
 
-  abbrev pub raw : Typed → Poly
-  raw = Typing.raw S W
+  last : (gs : List Poly) (f : Poly) → List·Memᴰ f (gs ++ (f ∷ []))
+  last gs f = Memᴰ·append-right gs (List·Memᴰ·head refl)
 
-  abbrev pub minus : Typed → Typed → Algebra.V B
-  minus = Typing.minus S W
+  -- n is the monic multiple of g, which becomes a row
+  record Divided (g n : Poly) : Type 0 where
+    over : Over F N n
+    there : (gs : List Poly) → Overs F N gs → Member F N gs g → Member F N gs n
+    back : (gs : List Poly) → Overs F N gs → Member F N gs n → Member F N gs g
 
-  pub record Inv (s : State) (gs : List Poly) : Type 0 where
-    pub T : List Typed
-    pub rows : map raw T ≡ s .rows
-    pub G : List Typed
-    pub gens : map raw G ≡ gs
-    pub into : (p : Typed) → List·Memᴰ p T → Span B G (Algebra.at B p)
-    pub from : (p : Typed) → List·Memᴰ p G → Span B T (Algebra.at B p)
-
-  abbrev Spans : List Typed → List Typed → Type 0
-  Spans G T = (p : Typed) → List·Memᴰ p T → Span B G (Algebra.at B p)
-
-  wider : {T : List Typed} (U : List Typed) {v : Algebra.V B} → Span B T v → Span B (T ++ U) v
-  wider U = Algebra.span-trans B (λ g h. Algebra.span-gen B (Memᴰ·append-left U h))
-
-  last : (T : List Typed) (p : Typed) → List·Memᴰ p (T ++ (p ∷ []))
-  last T p = Memᴰ·append-right T (List·Memᴰ·head refl)
-
-  -- a row more
-  new-row : {s : State} {gs hs : List Poly} {t : Term} {g : Poly} (I : Inv s gs) (H : List Typed) → map raw H ≡ hs → (q : Typed) → raw q ≡ t ∷ g → 0 < t .coefficient → Spans H (I .T) → Span B H (Algebra.at B q) →
-      ((n : List Typed) → Span B (I .T ++ n) (Algebra.at B q) → Spans (I .T ++ n) H) → Inv (with-row S s (t ∷ g)) hs
-  new-row {s} {gs} {hs} {t} {g} I H e q d n f h k =
-      let o : Over F N (t ∷ g) = subst (Over F N) d (Typing.raw-over S W q) in
-      let c : Code F = (t .coefficient, o t (List·Memᴰ·head refl) .0) in
-      let i = Typing.inverse S W c n in
-      let r : Typed = Algebra.scaled B (i .code) Monomials.unit q in
-      let re : raw r ≡ Value.scaled F (F .inv (t .coefficient)) Rattle.monomial.specs.Monomial.one (t ∷ g) = Typing.raw-scaled S W (i .code) Monomials.unit q ∙ (λ j. Value.scaled F (i .is j) Rattle.monomial.specs.Monomial.one (d j)) in
-      let ra : Algebra.at B r ≡ Algebra.shift B (i .code) Monomials.unit (Algebra.at B q) = Algebra.at-scaled B (i .code) Monomials.unit q in
-      let T′ : List Typed = I .T ++ (r ∷ []) in
+  divided : {t : Term} {g : Poly} → Written F O N (t ∷ g) → Divided (t ∷ g) (scaled F (F .inv (t .coefficient)) one (t ∷ g))
+  divided {t} {g} w =
+      let h : t .coefficient < F .q = w .over t (List·Memᴰ·head refl) .0 in
+      let p : 0 < t .coefficient = w .nonzero t (List·Memᴰ·head refl) in
+      let b : F .inv (t .coefficient) < F .q = L .inv-below (t .coefficient) p h in
       record {
-        T = T′;
-        rows = map-append raw (I .T) (r ∷ []) ∙ cc (I .rows, re);
-        G = H;
-        gens = e;
-        into = Lists.both (λ p. Span B H (Algebra.at B p)) (I .T) r f (subst (Span B H) (sym ra) (Algebra.span-shift B (i .code) Monomials.unit h));
-        from = k (r ∷ []) (subst (Span B T′) (ap (Algebra.shift B c Monomials.unit) ra ∙ Algebra.shift-unit B c (i .code) (i .unit) (Algebra.at B q)) (Algebra.span-shift B c Monomials.unit (Algebra.span-gen B (last (I .T) r))));
+        over = Ideals.over-scaled S W (F .inv (t .coefficient)) one b Monomials.in-one (t ∷ g) (w .over);
+        there = λ gs o m. Ideals.member-scaled S W (F .inv (t .coefficient)) one b Monomials.in-one gs o (t ∷ g) (w .over) m;
+        back = λ gs o m. Ideals.member-unscaled S W (t .coefficient) p h gs o (t ∷ g) (w .over) m;
       }
 
-  -- the rows are those of a sound sheet
-  abbrev Rows : State → List Typed → Type 0
-  Rows s T = Sound S (record { rows = map raw T; marks = s .marks })
+  -- g stands for f, from which it differs by what the rows generate
+  exchanged : (R : Table) → Overs F N R → (f g : Poly) → Over F N f → Over F N g → Member F N R (minus F f g) → (n : Poly) → Divided g n → SameIdeal F N (R ++ (n ∷ [])) (R ++ (f ∷ []))
+  exchanged R o f g p q m n d =
+      let fs : List Poly = R ++ (f ∷ []) in
+      let ds : List Poly = R ++ (n ∷ []) in
+      let fo : Overs F N fs = Ideals.over-append S W R (f ∷ []) o (alone f p) in
+      let dv : Overs F N ds = Ideals.over-append S W R (n ∷ []) o (alone n (d .over)) in
+      let mo : Over F N (minus F f g) = Ideals.over-plus S W f (negated F g) p (Ideals.over-negated S W g q) in
+      Ideals.same-ideal S W ds dv fs fo
+      (λ h k. ⊎-elim (λ i. Ideals.member-generator S W fs fo h (Memᴰ·append-left (f ∷ []) i))
+      (λ i. only n (d .there fs fo (Ideals.member-back S W fs fo f p g q (Ideals.member-wider S W R o (f ∷ []) (alone f p) _ mo m) (Ideals.member-generator S W fs fo f (last R f)))) h i) (List·Memᴰ·append-cases R k))
+      (λ h k. ⊎-elim (λ i. Ideals.member-generator S W ds dv h (Memᴰ·append-left (n ∷ []) i))
+      (λ i. only f (Ideals.member-from S W ds dv f p g q (Ideals.member-wider S W R o (n ∷ []) (alone n (d .over)) _ mo m) (d .back ds dv (Ideals.member-generator S W ds dv n (last R n)))) h i) (List·Memᴰ·append-cases R k))
 
-  rows-sound : {s : State} {gs : List Poly} (I : Inv s gs) → Sound S s → Rows s (I .T)
-  rows-sound {s} I so = subst (λ R. Sound S (record { rows = R; marks = s .marks })) (sym (I .rows)) so
-
-  pub record Left (s : State) (T : List Typed) (p : Typed) (g : Poly) : Type 0 where
-    pub poly : Typed
-    pub is : raw poly ≡ g
-    pub written : Written F O N g
-    pub irreducible : Irreducible F O D N (s .rows) g
-    pub span : Span B T (Typing.minus S W p poly)
-
-  -- what is left of a written polynomial
-  pub left-over : {s : State} {gs : List Poly} (I : Inv s gs) → Sound S s → {room : ℕ} {h g : Poly} → ReducesTo S s room h (left g) → (p : Typed) → raw p ≡ h → Written F O N h → Left s (I .T) p g
-  left-over {s} I so {room} {h} {g} r p e w =
-      let z = Tables.left-over S W (I .T) (Tables.typed-good S W (I .T) (s .marks) (rows-sound I so)) {room = room} p {g = g} (rw (I .rows, e) r) (Typing.written-sorted S W p (rw e w)) in
-      record { poly = z .poly; is = z .is; written = subst (Written F O N) (z .is) (Typing.sorted-written S W (z .poly) (z .sorted)); irreducible = subst (λ R. Irreducible F O D N R g) (I .rows) (z .irreducible); span = z .span }
-
-  first-positive : {t : Term} {g : Poly} → Written F O N (t ∷ g) → 0 < t .coefficient
-  first-positive {t} w = w .nonzero t (List·Memᴰ·head refl)
-
-  adds : {s s′ : State} {gs : List Poly} {f : Poly} {n : ℕ} → Inv s gs → Sound S s → Adds S s f (rows-now n) s′ → Inv s′ (gs ++ (f ∷ []))
+  adds : {s s′ : State} {gs : List Poly} {f : Poly} {n : ℕ} → Keeps s gs → Sound S s → Adds S s f (rows-now n) s′ → Keeps s′ (gs ++ (f ∷ []))
   adds {s} {gs = gs} {f = f} I so (add-zero e r) =
       let w = Soundness.no-fault S W f e .written in
-      let p = Typing.typed S W f (w .over) in
-      let l = left-over I so r (p .0) (p .1) w in
+      let o = Sheets.rows-over S W so in
+      let m : Member F N (s .rows) f = Ideals.member-from S W (s .rows) o f (w .over) [] (λ t h. elim h [ ]) (Sheets.reduced-member S W so f [] w r) (Ideals.member-zero S W (s .rows) o) in
       record {
-        T = I .T;
-        rows = I .rows;
-        G = I .G ++ (p .0 ∷ []);
-        gens = map-append raw (I .G) (p .0 ∷ []) ∙ cc (I .gens, p .1);
-        into = λ x m. wider (p .0 ∷ []) (I .into x m);
-        from = Lists.both (λ x. Span B (I .T) (Algebra.at B x)) (I .G) (p .0) (I .from) (Algebra.span-from B _ _ (l .span) (Algebra.none (Typing.nothing S W (l .poly) (l .is))));
+        over = Ideals.over-append S W gs (f ∷ []) (I .over) (alone f (w .over));
+        same = Ideals.chain S W (I .same) (Ideals.same-append S W gs (I .over) (f ∷ []) (alone f (w .over)) (only f (I .same f (w .over) .0 m)));
       }
-  adds {s} {gs = gs} {f = f} I so (add-row {t = t} {g = g} e r m) =
+  adds {s} {gs = gs} {f = f} I so (add-row {t = t} {g = g} e r l) =
       let w = Soundness.no-fault S W f e .written in
-      let p = Typing.typed S W f (w .over) in
-      let l = left-over I so r (p .0) (p .1) w in
-      let H : List Typed = I .G ++ (p .0 ∷ []) in
-      let i : Spans H (I .T) = λ x m. wider (p .0 ∷ []) (I .into x m) in
-      new-row I H (map-append raw (I .G) (p .0 ∷ []) ∙ cc (I .gens, p .1)) (l .poly) (l .is) (first-positive (l .written)) i
-      (Algebra.span-back B _ _ (Algebra.span-trans B i (l .span)) (Algebra.span-gen B (last (I .G) (p .0))))
-      (λ n q. Lists.both (λ x. Span B (I .T ++ n) (Algebra.at B x)) (I .G) (p .0) (λ x m. wider n (I .from x m)) (Algebra.span-from B _ _ (wider n (l .span)) q))
+      let v = Soundness.reduces-written S W r w (t ∷ g) refl .0 in
+      let o = Sheets.rows-over S W so in
+      record {
+        over = Ideals.over-append S W gs (f ∷ []) (I .over) (alone f (w .over));
+        same = Ideals.chain S W (exchanged (s .rows) o f (t ∷ g) (w .over) (v .over) (Sheets.reduced-member S W so f (t ∷ g) w r) (scaled F (F .inv (t .coefficient)) one (t ∷ g)) (divided v)) (Ideals.same-more S W (s .rows) o gs (I .over) (f ∷ []) (alone f (w .over)) (I .same));
+      }
 
-  steps : {s s′ : State} {gs : List Poly} {a : Answer} → Inv s gs → Sound S s → Steps S s a s′ → Inv s′ gs
+  steps : {s s′ : State} {gs : List Poly} {a : Answer} → Keeps s gs → Sound S s → Steps S s a s′ → Keeps s′ gs
   steps I so (step-closed c) = I
   steps I so (step-wide c f) = I
   steps I so (step-stuck c f r) = I
-  steps I so (step-mark c f r) = record { T = I .T; rows = I .rows; G = I .G; gens = I .gens; into = I .into; from = I .from }
-  steps I so (step-full c f r m) = I
-  steps {s} I so (step-row {k = k} {v = v} {t = t} {g = g} c f r m) =
-      let x : Mono N = Monomials.var v (c .pair .at-variable) in
-      let y : Typed = getD (I .T) (k - 1) [] in
-      let p : Typed = Algebra.scaled B (B .𝟙) x y in
-      let e : raw p ≡ prolonged S s k v = Typing.raw-scaled S W (B .𝟙) x y ∙ ap (Value.scaled F 1 (variable v)) (sym (Typing.raw-row S W (I .T) (k - 1)) ∙ ap (λ R. row R k) (I .rows)) in
-      let w : length (I .T) ≡ length (s .rows) = sym (length-map (I .T) raw) ∙ ap length (I .rows) in
-      let h : List·Memᴰ y (I .T) = Typing.row-member S W (I .T) (k - 1) (omega arith) in
-      let l = left-over I so r p e (Soundness.prolonged-written S W so k v (c .pair .at-variable)) in
-      let q : Span B (I .T) (Algebra.at B p) = subst (Span B (I .T)) (sym (Algebra.at-scaled B (B .𝟙) x y)) (Algebra.span-shift B (B .𝟙) x (Algebra.span-gen B h)) in
-      new-row I (I .G) (I .gens) (l .poly) (l .is) (first-positive (l .written)) (I .into) (Algebra.span-trans B (I .into) (Algebra.span-back B _ _ (l .span) q)) (λ n q z m. wider n (I .from z m))
+  steps I so (step-mark c f r) = record { over = I .over; same = I .same }
+  steps I so (step-full c f r l) = I
+  steps {s} I so (step-row {k = k} {v = v} {t = t} {g = g} c f r l) =
+      let w = Soundness.prolonged-written S W so k v (c .pair .at-variable) in
+      let u = Soundness.reduces-written S W r w (t ∷ g) refl .0 in
+      let o = Sheets.rows-over S W so in
+      let d = divided u in
+      let n : Poly = scaled F (F .inv (t .coefficient)) one (t ∷ g) in
+      let p : Member F N (s .rows) (prolonged S s k v) = Ideals.member-scaled S W 1 (variable v) (L .differ) (Monomials.in-variable (c .pair .at-variable)) (s .rows) o (row (s .rows) k) (Soundness.row-written S W so k .over)
+      (Ideals.member-generator S W (s .rows) o (row (s .rows) k) (Soundness.row-mem S W (s .rows) (k - 1) (omega (arith, c .pair .at-row .0, c .pair .at-row .1)))) in
+      let m : Member F N (s .rows) n = d .there (s .rows) o (Ideals.member-back S W (s .rows) o (prolonged S s k v) (w .over) (t ∷ g) (u .over) (Sheets.reduced-member S W so (prolonged S s k v) (t ∷ g) w r) p) in
+      record { over = I .over; same = Ideals.chain S W (Ideals.turned S W (Ideals.same-append S W (s .rows) o (n ∷ []) (alone n (d .over)) (only n m))) (I .same) }
 
-  same : {s s′ : State} {gs : List Poly} {f : Poly} {r : Refusal} → Inv s gs → Adds S s f (Answers.denied r) s′ → Inv s′ gs
-  same I (add-faulty e) = I
-  same I (add-stuck e r) = I
-  same I (add-full e r m) = I
+  not-adds : {s s′ : State} {gs : List Poly} {f : Poly} {r : Refusal} → Keeps s gs → Adds S s f (denied r) s′ → Keeps s′ gs
+  not-adds I (add-faulty e) = I
+  not-adds I (add-stuck e r) = I
+  not-adds I (add-full e r m) = I
 
-  pub inv : {calls : List Call} {s : State} {gs : List Poly} → After S calls s gs → Inv s gs
-  inv made = record { T = []; rows = refl; G = []; gens = refl; into = λ p h. elim h [ ]; from = λ p h. elim h [ ] }
-  inv (added a h) = adds (inv a) (Soundness.sound S W a) h
-  inv (not-added a h) = same (inv a) h
-  inv (stepped a h) = steps (inv a) (Soundness.sound S W a) h
-  inv (reduced a h) = inv a
-  inv (shown a h) = inv a
-  inv (copied a h) = inv a
-  inv (judged a h) = inv a
-
-  finish : {s : State} {gs : List Poly} → Inv s gs → SameIdeal F N (s .rows) gs
-  finish I = subst₂ (SameIdeal F N) (I .rows) (I .gens) (Typing.same-ideal S W (I .T) (I .G) (I .into) (I .from))
+  pub keeps : {calls : List Call} {s : State} {gs : List Poly} → After S calls s gs → Keeps s gs
+  keeps made = record { over = λ p h. elim h [ ]; same = λ f o. (λ m. m, λ m. m) }
+  keeps (added a h) = adds (keeps a) (Soundness.sound S W a) h
+  keeps (not-added a h) = not-adds (keeps a) h
+  keeps (stepped a h) = steps (keeps a) (Soundness.sound S W a) h
+  keeps (reduced a h) = keeps a
+  keeps (shown a h) = keeps a
+  keeps (copied a h) = keeps a
+  keeps (judged a h) = keeps a
 
   pub keeps-ideal : Keeps-ideal S
-  keeps-ideal calls s gs a = finish (inv a)
+  keeps-ideal calls s gs a = keeps a .same

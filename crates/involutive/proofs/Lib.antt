@@ -11,7 +11,7 @@ pub mod Tables
 pub mod ClosedTables
 pub mod Soundness
 pub mod Copying
-pub mod ClosedSheets
+pub mod Sheets
 pub mod KeptIdeal
 pub mod Remainders
 pub mod EqualCopies

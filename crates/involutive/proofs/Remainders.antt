@@ -1,8 +1,6 @@
 -- On a closed sheet remainders tell the ideal's classes apart.
-use mathlib.Core.Path.{_≡_, refl, sym, _∙_, ap, subst, subst₂}
-use mathlib.Core.Bool.{Bool}
-use mathlib.Core.List.{List, _++_}
-use mathlib.Core.Logic.{_↔_}
+use mathlib.Core.Path.{_≡_, refl, sym, _∙_, ap, subst}
+use mathlib.Core.List.{List}
 use Prim.Native.Nat.{ℕ}
 use native.Mathlib.Omega.{arith}
 use lib.ListN.{length, take}
@@ -10,24 +8,21 @@ use lib.Seq.{take-append-seam}
 use Rattle.std.specs.declared.option.Option.the-variants.{None}
 use Rattle.field.specs.Field.{FieldMeaning, FieldLaws}
 use Rattle.monomial.specs.Order.{Compare}
-use Rattle.involutive.specs.Value
-use Rattle.polynomial.specs.Polynomial.{Poly, Written}
-use Rattle.involutive.specs.Value.{Equal}
+use Rattle.polynomial.specs.Polynomial.{Poly, Over, Written}
+use Rattle.involutive.specs.Value.{Equal, plus, minus, negated, product}
 use Rattle.involutive.specs.Ideal.{Member}
-use Rattle.involutive.specs.Reduction.{Table, left, Irreducible}
+use Rattle.involutive.specs.Reduction.{left, Irreducible}
 use Rattle.involutive.specs.Answers
 use Rattle.involutive.specs.Sheet.{Setting, State, Closed, Lawful}
 use Rattle.involutive.specs.Answers.{first-fault, ReducesTo, Answer, Remains, remainder-written, written}
 use Rattle.polynomial.specs.Check.{most-terms}
-use Rattle.involutive.specs.Complete.{Granted, Keeps-ideal, Remainders-decide, Remainders-add, Remainders-multiply}
-use Rattle.involutive.proofs.Algebra
-use Rattle.involutive.proofs.Algebra.{Base, Span}
-use Rattle.involutive.proofs.Typing
-use Rattle.involutive.proofs.Typing.{base}
+use Rattle.involutive.specs.Complete.{Granted, Remainders-decide, Remainders-add, Remainders-multiply}
 use Rattle.involutive.proofs.KeptIdeal
 use Rattle.involutive.specs.Sound.{Sound}
-use Rattle.involutive.proofs.Soundness.{no-fault, sound}
-use Rattle.involutive.proofs.ClosedSheets
+use Rattle.involutive.specs.Log.{Call, After}
+use Rattle.involutive.proofs.Soundness
+use Rattle.involutive.proofs.Ideals
+use Rattle.involutive.proofs.Sheets
 
 module _ (S : Setting) (W : Lawful S) where
   abbrev F : FieldMeaning
@@ -42,21 +37,6 @@ module _ (S : Setting) (W : Lawful S) where
   abbrev O : Compare
   O = S .order
 
-  abbrev Typed : Type 0
-  Typed = Typing.Typed S W
-
-  abbrev raw : Typed → Poly
-  raw = Typing.raw S W
-
-  abbrev B : Base
-  B = base L N
-
-  abbrev st : Table → (ℕ → ℕ → Bool) → State
-  st R m = record { rows = R; marks = m }
-
-  pub keeps-ideal : Keeps-ideal S
-  keeps-ideal = KeptIdeal.keeps-ideal S W
-
   granted : {s : State} {f r : Poly} → Granted S s f r → (first-fault S f ≡ None) × ReducesTo S s most-terms f (left r)
   granted {s} {f} {r} G = go (G .grant) refl (G .front)
     where
@@ -70,66 +50,74 @@ module _ (S : Setting) (W : Lawful S) where
           let k : g ≡ r = sym (take-append-seam g (lib.ListN.drop (length g) (G .out))) ∙ ap (λ i. take i (Answers.front g (G .out))) l ∙ d in
           (x, subst (λ g. ReducesTo S s most-terms f (left g)) k y)
 
-  -- f, its remainder r, and that their difference is spanned
-  record Got (s : State) (T : List Typed) (f r : Poly) : Type 0 where
-    poly : Typed
-    is : raw poly ≡ f
-    rest : Typed
-    rest-is : raw rest ≡ r
-    span : Span B T (Typing.minus S W poly rest)
-    good : Written F O N (raw rest)
-    irreducible : Irreducible F O (S .division) N (s .rows) (raw rest)
+  -- f and its remainder r, which differ by a member
+  record Remainder (s : State) (f r : Poly) : Type 0 where
+    whole : Written F O N f
+    rest : Written F O N r
+    irreducible : Irreducible F O (S .division) N (s .rows) r
+    member : Member F N (s .rows) (minus F f r)
 
-  got : {s : State} {gs : List Poly} {f r : Poly} (I : KeptIdeal.Inv S W s gs) → Sound S s → Granted S s f r → Got s (I .T) f r
-  got {s} {gs} {f} {r} I so G =
+  remainder : {s : State} {f r : Poly} → Sound S s → Granted S s f r → Remainder s f r
+  remainder {s} {f} {r} so G =
       let x = granted G in
-      let w = no-fault S W f (x .0) .written in
-      let p = Typing.typed S W f (w .over) in
-      let l = KeptIdeal.left-over S W I so (x .1) (p .0) (p .1) w in
-      record { poly = p .0; is = p .1; rest = l .poly; rest-is = l .is; span = l .span; good = subst (Written F O N) (sym (l .is)) (l .written); irreducible = subst (Irreducible F O (S .division) N (s .rows)) (sym (l .is)) (l .irreducible) }
+      let w = Soundness.no-fault S W f (x .0) .written in
+      let v = Soundness.reduces-written S W (x .1) w r refl in
+      record { whole = w; rest = v .0; irreducible = v .1; member = Sheets.reduced-member S W so f r w (x .1) }
 
-  -- where f − g is spanned, the remainders are the same
-  same-rests : {s : State} {gs : List Poly} {f g r t : Poly} (I : KeptIdeal.Inv S W s gs) → Sound S s → Closed S s → (A : Got s (I .T) f r) (C : Got s (I .T) g t) → Span B (I .T) (Typing.minus S W (A .poly) (C .poly)) → r ≡ t
-  same-rests {s} I so c A C z =
-      let b : Span B (I .T) (Typing.minus S W (A .rest) (C .rest)) = Algebra.span-diff B (Algebra.at B (A .rest)) (Algebra.at B (A .poly)) (Algebra.at B (C .rest)) (Algebra.span-swap B (Algebra.at B (A .poly)) (Algebra.at B (A .rest)) (A .span)) (Algebra.span-diff B (Algebra.at B (A .poly)) (Algebra.at B (C .poly)) (Algebra.at B (C .rest)) z (C .span)) in
-      sym (A .rest-is) ∙ ap raw (ClosedSheets.core S W (s .rows) (s .marks) so c (I .T) (I .rows) (A .rest) (C .rest) (A .good) (C .good) (A .irreducible) (C .irreducible) b) ∙ C .rest-is
+  module _ {calls : List Call} {s : State} {gs : List Poly} (a : After S calls s gs) (c : Closed S s) where
+    so : Sound S s
+    so = Soundness.sound S W a
+
+    ro : Ideals.Overs F N (s .rows)
+    ro = Sheets.rows-over S W so
+
+    diff : (u v w : Poly) → Over F N u → Over F N v → Over F N w → Member F N (s .rows) (minus F u v) → Member F N (s .rows) (minus F v w) → Member F N (s .rows) (minus F u w)
+    diff u v w ou ov ow = Ideals.member-diff S W (s .rows) ro u ou v ov w ow
+
+    swap : (u v : Poly) → Over F N u → Over F N v → Member F N (s .rows) (minus F u v) → Member F N (s .rows) (minus F v u)
+    swap u v ou ov = Ideals.member-swap S W (s .rows) ro u ou v ov
+
+    -- where f − g is a member, the remainders are the same
+    same-rests : (f g r t : Poly) → Remainder s f r → Remainder s g t → Member F N (s .rows) (minus F f g) → r ≡ t
+    same-rests f g r t A C m =
+        Sheets.one-remainder S W s so c r t (A .rest) (C .rest) (A .irreducible) (C .irreducible)
+        (diff r f t (A .rest .over) (A .whole .over) (C .rest .over) (swap f r (A .whole .over) (A .rest .over) (A .member))
+        (diff f g t (A .whole .over) (C .whole .over) (C .rest .over) m (C .member)))
+
+    -- and the other way round
+    same-class : (f g r t : Poly) → Remainder s f r → Remainder s g t → r ≡ t → Member F N (s .rows) (minus F f g)
+    same-class f g r t A C e =
+        diff f r g (A .whole .over) (A .rest .over) (C .whole .over) (A .member)
+        (subst (λ r. Member F N (s .rows) (minus F r g)) (sym e) (swap g t (C .whole .over) (C .rest .over) (C .member)))
+
+    -- differences of polynomials that stand for the same
+    equal-member : (u v w x : Poly) → Over F N u → Over F N v → Over F N w → Over F N x → Equal F u v → Equal F w x → Member F N (s .rows) (minus F v x) → Member F N (s .rows) (minus F u w)
+    equal-member u v w x ou ov ow ox e d = Ideals.member-equal S W (Ideals.equal-minus S W u ou v ov w ow x ox e d)
 
   pub decide : Remainders-decide S
-  decide calls s gs a c f g r t G H = let I = KeptIdeal.inv S W a in go I (sound S W a) (got I (sound S W a) G) (got I (sound S W a) H)
-    where
-      go : (I : KeptIdeal.Inv S W s gs) → Sound S s → Got s (I .T) f r → Got s (I .T) g t → (r ≡ t) ↔ Member F N gs (Value.minus F f g)
-      go I so F₁ F₂ =
-          let u : Typed = F₁ .poly ++ Algebra.negated B (F₂ .poly) in
-          let m : raw u ≡ Value.minus F f g = Typing.raw-minus S W (F₁ .poly) (F₂ .poly) ∙ (λ i. Value.minus F (F₁ .is i) (F₂ .is i)) in
-          let k : Algebra.at B u ≡ Typing.minus S W (F₁ .poly) (F₂ .poly) = Algebra.at-++ B (F₁ .poly) (Algebra.negated B (F₂ .poly)) ∙ ap (Algebra._⊕_ B (Algebra.at B (F₁ .poly))) (Algebra.at-negated B (F₂ .poly)) in (
-            λ z.
-                let e : Algebra.at B (F₂ .rest) ≡ Algebra.at B (F₁ .rest) = Typing.same-value S W (F₂ .rest) (F₁ .rest) (F₂ .rest-is ∙ sym z ∙ sym (F₁ .rest-is)) in
-                let h : Span B (I .T) (Typing.minus S W (F₁ .rest) (F₂ .poly)) = Algebra.span-swap B (Algebra.at B (F₂ .poly)) (Algebra.at B (F₁ .rest)) (subst (λ v. Span B (I .T) (Algebra._⊕_ B (Algebra.at B (F₂ .poly)) (Algebra.⊖ B v))) e (F₂ .span)) in
-                let b : Span B (I .T) (Typing.minus S W (F₁ .poly) (F₂ .poly)) = Algebra.span-diff B (Algebra.at B (F₁ .poly)) (Algebra.at B (F₁ .rest)) (Algebra.at B (F₂ .poly)) (F₁ .span) h in
-                subst₂ (Member F N) (I .gens) m (Typing.span-member S W (I .G) u (subst (Span B (I .G)) (sym k) (Algebra.span-trans B (I .into) b))),
-            λ z.
-                let h : Span B (I .T) (Typing.minus S W (F₁ .poly) (F₂ .poly)) = Algebra.span-trans B (I .from) (subst (Span B (I .G)) k (Typing.member-span S W (I .G) u (subst₂ (Member F N) (sym (I .gens)) (sym m) z))) in
-                same-rests I so c F₁ F₂ h,
-          )
+  decide calls s gs a c f g r t G H =
+      let A = remainder (so a c) G in
+      let C = remainder (so a c) H in
+      let same = KeptIdeal.keeps-ideal S W calls s gs a (minus F f g) (Ideals.over-plus S W f (negated F g) (A .whole .over) (Ideals.over-negated S W g (C .whole .over))) in
+      (λ e. same .0 (same-class a c f g r t A C e), λ m. same-rests a c f g r t A C (same .1 m))
 
   pub multiply : Remainders-multiply S
-  multiply calls s gs a c f g h p r t u w e d G₁ G₂ G₃ G₄ = let I = KeptIdeal.inv S W a in go I (sound S W a) (got I (sound S W a) G₁) (got I (sound S W a) G₂) (got I (sound S W a) G₃) (got I (sound S W a) G₄)
-    where
-      go : (I : KeptIdeal.Inv S W s gs) → Sound S s → Got s (I .T) f r → Got s (I .T) g t → Got s (I .T) h u → Got s (I .T) p w → u ≡ w
-      go I so F₁ F₂ F₃ F₄ =
-          let x : Algebra.at B (F₃ .poly) ≡ Algebra.at B (Algebra.product B (F₁ .poly) (F₂ .poly)) = Typing.from-equal S W (F₃ .poly) (Algebra.product B (F₁ .poly) (F₂ .poly)) (rw (Typing.raw-product S W (F₁ .poly) (F₂ .poly), F₁ .is, F₂ .is, F₃ .is) e) in
-          let y : Algebra.at B (F₄ .poly) ≡ Algebra.at B (Algebra.product B (F₁ .rest) (F₂ .rest)) = Typing.from-equal S W (F₄ .poly) (Algebra.product B (F₁ .rest) (F₂ .rest)) (rw (Typing.raw-product S W (F₁ .rest) (F₂ .rest), F₁ .rest-is, F₂ .rest-is, F₄ .is) d) in
-          let z : Span B (I .T) (Typing.minus S W (F₃ .poly) (F₄ .poly)) = rw (x, y) (Algebra.span-product B (F₁ .poly) (F₂ .poly) (F₁ .rest) (F₂ .rest) (F₁ .span) (F₂ .span)) in
-          same-rests I so c F₃ F₄ z
+  multiply calls s gs a c f g h p r t u w e d G₁ G₂ G₃ G₄ =
+      let A = remainder (so a c) G₁ in
+      let C = remainder (so a c) G₂ in
+      let X = remainder (so a c) G₃ in
+      let Y = remainder (so a c) G₄ in
+      same-rests a c h p u w X Y
+      (equal-member a c h (product F f g) p (product F r t) (X .whole .over) (Ideals.over-product S W f (A .whole .over) g (C .whole .over)) (Y .whole .over) (Ideals.over-product S W r (A .rest .over) t (C .rest .over)) e d
+      (Ideals.member-products S W (s .rows) (ro a c) f (A .whole .over) g (C .whole .over) r (A .rest .over) t (C .rest .over) (A .member) (C .member)))
 
   pub add : Remainders-add S
-  add calls s gs a c f g h r t u e G₁ G₂ G₃ = let I = KeptIdeal.inv S W a in go I (sound S W a) (got I (sound S W a) G₁) (got I (sound S W a) G₂) (got I (sound S W a) G₃)
-    where
-      go : (I : KeptIdeal.Inv S W s gs) → Sound S s → Got s (I .T) f r → Got s (I .T) g t → Got s (I .T) h u → Equal F u (Value.plus r t)
-      go I so F₁ F₂ F₃ =
-          let v : Algebra.V B = Algebra._⊕_ B (Algebra.at B (F₁ .rest)) (Algebra.at B (F₂ .rest)) in
-          let x : Algebra.at B (F₃ .poly) ≡ Algebra._⊕_ B (Algebra.at B (F₁ .poly)) (Algebra.at B (F₂ .poly)) = Typing.from-equal S W (F₃ .poly) (F₁ .poly ++ F₂ .poly) (rw (Typing.raw-++ S W (F₁ .poly) (F₂ .poly), F₁ .is, F₂ .is, F₃ .is) e) ∙ Algebra.at-++ B (F₁ .poly) (F₂ .poly) in
-          let z : Span B (I .T) (Algebra._⊕_ B (Algebra.at B (F₃ .poly)) (Algebra.⊖ B v)) = rw x (Algebra.span-plus B (Algebra.at B (F₁ .poly)) (Algebra.at B (F₂ .poly)) (Algebra.at B (F₁ .rest)) (Algebra.at B (F₂ .rest)) (F₁ .span) (F₂ .span)) in
-          let b : Span B (I .T) (Algebra._⊕_ B (Algebra.at B (F₃ .rest)) (Algebra.⊖ B v)) = Algebra.span-diff B (Algebra.at B (F₃ .rest)) (Algebra.at B (F₃ .poly)) v (Algebra.span-swap B (Algebra.at B (F₃ .poly)) (Algebra.at B (F₃ .rest)) (F₃ .span)) z in
-          let k : Algebra.at B (F₃ .rest) ≡ v = ClosedSheets.core-sum S W (s .rows) (s .marks) so c (I .T) (I .rows) (F₃ .rest) (F₁ .rest) (F₂ .rest) (F₃ .irreducible) (F₁ .irreducible) (F₂ .irreducible) b in
-          subst₂ (Equal F) (F₃ .rest-is) (Typing.raw-++ S W (F₁ .rest) (F₂ .rest) ∙ (λ i. F₁ .rest-is i ++ F₂ .rest-is i)) (Typing.to-equal S W (F₃ .rest) (F₁ .rest ++ F₂ .rest) (k ∙ sym (Algebra.at-++ B (F₁ .rest) (F₂ .rest))))
+  add calls s gs a c f g h r t u e G₁ G₂ G₃ =
+      let A = remainder (so a c) G₁ in
+      let C = remainder (so a c) G₂ in
+      let X = remainder (so a c) G₃ in
+      let o : Over F N (plus r t) = Ideals.over-plus S W r t (A .rest .over) (C .rest .over) in
+      Sheets.sum-remainder S W s (so a c) c u (X .rest .over) r (A .rest .over) t (C .rest .over) (X .irreducible) (A .irreducible) (C .irreducible)
+      (diff a c u h (plus r t) (X .rest .over) (X .whole .over) o (swap a c h u (X .whole .over) (X .rest .over) (X .member))
+      (equal-member a c h (plus f g) (plus r t) (plus r t) (X .whole .over) (Ideals.over-plus S W f g (A .whole .over) (C .whole .over)) o o e (λ m. refl)
+      (Ideals.member-sums S W (s .rows) (ro a c) f (A .whole .over) g (C .whole .over) r (A .rest .over) t (C .rest .over) (A .member) (C .member))))

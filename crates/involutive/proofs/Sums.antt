@@ -1,4 +1,5 @@
--- The heart of complete tables, over any ring, monomials, order and table: what the rows span is a sum of involutive multiples, and no such sum but 0 is irreducible.
+-- The heart of the theorem, over any ring, monomials, order and table: a sum of involutive multiples that is irreducible is 0, and by
+-- a closed table every multiple of a row is such a sum.
 use mathlib.Core.Path.{_≡_, refl, sym, _∙_, ap, subst, subst₂}
 use mathlib.Core.Logic.{_⊎_, inl, inr, ⊎-elim}
 use mathlib.Core.WellFounded.{Acc, Acc·intro}
@@ -135,26 +136,6 @@ module _ (B : Base) where
         let c : r .c ≡ 𝟘 = sym (ap (λ x. x h) (r .value) ∙ Algebra.⊕-at B (shift (r .c) (t .a) (row (t .k))) (r .w) h ∙ cc (term-at (r .c) (t .a) (t .k), sum-above (r .sum), Algebra.+0 B (r .c))) ∙ z in
         subst (Sum (Below h)) (sym (r .value ∙ cc (c, Algebra.shift-𝟘 B (t .a) (row (t .k)), Algebra.0⊕ B (r .w)))) (r .sum)
 
-    lower : {Q : M → Type 0} {v : V} (t : Top Q v) → Irreducible v → Sum (Below (t .a · lead (t .k))) v
-    lower t z = lower-at t (z (t .k) (t .a) (t .mul))
-
-    only-zero : (h : M) → Acc _≺_ h → (v : V) → Sum (Below h) v → Irreducible v → v ≡ 𝟎
-    only-zero h (Acc·intro _ f) v s z = go (λ t. only-zero (t .a · lead (t .k)) (f _ (t .height)) v (lower t z) z) (top s)
-      where
-        go : (Top (Below h) v → v ≡ 𝟎) → (v ≡ 𝟎) ⊎ Top (Below h) v → v ≡ 𝟎
-        go rec (inl e) = e
-        go rec (inr t) = rec t
-
-    pub irreducible-zero : {Q : M → Type 0} {v : V} → Sum Q v → Irreducible v → v ≡ 𝟎
-    irreducible-zero {v = v} s z = ⊎-elim (λ e. e) (λ t. only-zero (t .a · lead (t .k)) (≺-wf _) v (lower t z) z) (top s)
-
-    -- ---- the greatest monomial of a sum is the height of an involutive multiple
-    pub record Led (m : M) : Type 0 where
-      pub k : R
-      pub a : M
-      pub mul : Mul k a
-      pub height : a · lead k ≡ m
-
     -- from one sum to another whose heights are lower, until P
     fall : (P : V → Type 0) (v : V) → (v ≡ 𝟎 → P v) → ((Q : M → Type 0) (t : Top Q v) → P v ⊎ (v (t .a · lead (t .k)) ≡ 𝟘)) → (h : M) → Acc _≺_ h → Sum (Below h) v → P v
     fall P v z f h (Acc·intro _ g) s = go (λ t y. fall P v z f (t .a · lead (t .k)) (g _ (t .height)) (lower-at t y)) (top s)
@@ -166,8 +147,18 @@ module _ (B : Base) where
     fall-from : (P : V → Type 0) (v : V) → (v ≡ 𝟎 → P v) → ((Q : M → Type 0) (t : Top Q v) → P v ⊎ (v (t .a · lead (t .k)) ≡ 𝟘)) → {Q : M → Type 0} → Sum Q v → P v
     fall-from P v z f s = ⊎-elim z (λ t. ⊎-elim (λ y. y) (λ y. fall P v z f (t .a · lead (t .k)) (≺-wf _) (lower-at t y)) (f _ t)) (top s)
 
+    pub irreducible-zero : {Q : M → Type 0} {v : V} → Sum Q v → Irreducible v → v ≡ 𝟎
+    irreducible-zero {v = v} s z = fall-from (λ v. v ≡ 𝟎) v (λ e. e) (λ Q t. inr (z (t .k) (t .a) (t .mul))) s
+
     beneath : {Q : M → Type 0} {v : V} (t : Top Q v) (h : M) → t .a · lead (t .k) ≺ h → Sum (Below h) v
     beneath t h l = sum-map (λ x. ⊎-elim (λ y. ≺-trans x _ h y l) (λ e. subst (λ y. y ≺ h) (sym e) l)) (t .sum)
+
+    -- the greatest monomial of a sum is the height of an involutive multiple
+    pub record Led (m : M) : Type 0 where
+      pub k : R
+      pub a : M
+      pub mul : Mul k a
+      pub height : a · lead k ≡ m
 
     pub led : {Q : M → Type 0} {v : V} → Sum Q v → (m : M) → (v m ≡ 𝟘 → ⊥) → ((u : M) → m ≺ u → v u ≡ 𝟘) → Led m
     unfolding Algebra.𝟎
@@ -182,7 +173,7 @@ module _ (B : Base) where
     pub raise : (a m : M) → (m ≡ a · m) ⊎ (m ≺ a · m)
     raise a m = ⊎-elim (λ e. inl (sym (one· m) ∙ ap (λ x. x · m) (sym e))) (λ l. inr (subst₂ _≺_ (·-comm m one ∙ one· m) (·-comm m a) (≺-mul m one a l))) (≺-one a)
 
-    -- ---- what generates the rows
+    -- what generates the rows
     pub record Start (G : V → Type 0) (k : R) : Type 0 where
       pub value : V
       pub inside : G value
@@ -211,7 +202,7 @@ module _ (B : Base) where
       pub generated : ((k : R) → ((j : R) → lead j ≺ lead k → G (row j)) → Start G k) → (k : R) → G (row k)
       generated start k = generate start (lead k) (≺-wf _) k refl
 
-    -- ---- a closed table
+    -- a closed table
     pub record Prolongation (Next : R → R → Type 0) (k : R) (a : M) : Type 0 where
       pub x : M
       pub rest : M

@@ -87,11 +87,6 @@ module _ (S : Setting) (W : Lawful S) where
     pub monic : (p : Typed) → List·Memᴰ p T → Monic p
     pub once : (j k : ℕ) → Within j (length T) → Within k (length T) → lead (nth T j) ≡ lead (nth T k) → j ≡ k
 
-  pub mem-raw : (T : List Typed) {p : Typed} → List·Memᴰ p T → List·Memᴰ (raw p) (map raw T)
-  mem-raw [] h = elim h [ ]
-  mem-raw (x ∷ T) (List·Memᴰ·head e) = List·Memᴰ·head (ap raw e)
-  mem-raw (x ∷ T) (List·Memᴰ·tail h) = List·Memᴰ·tail (mem-raw T h)
-
   typed-monic : (p : Typed) → Row S (raw p) → Monic p
   typed-monic [] r = absurd (omega (arith, r .monic))
   typed-monic (u ∷ p) r = record { head = u; tail = p; is = refl; one = Typing.code-eq (r .monic); sorted = Typing.written-sorted S W (u ∷ p) (r .acceptable .written) }
@@ -99,7 +94,7 @@ module _ (S : Setting) (W : Lawful S) where
   -- the rows of a sound sheet are such a table
   pub typed-good : (T : List Typed) (m : ℕ → ℕ → Bool) → Sound S (record { rows = map raw T; marks = m }) → Good T
   typed-good T m I = record {
-    monic = λ p h. typed-monic p (I .each (raw p) (mem-raw T h));
+    monic = λ p h. typed-monic p (I .each (raw p) (Typing.mem-raw S W T h));
     once = λ j k w v e. I .once j k (rw (length-map T raw) w) (rw (length-map T raw) v) (led j ∙ ap (λ x. x .0) e ∙ sym (led k));
   }
     where
@@ -244,7 +239,7 @@ module _ (S : Setting) (W : Lawful S) where
           sum = Sums.add (u .0 .0) (v .k) (v .a) (v .mul) n (z .sum) (Algebra.minus-chain B (Algebra.at B p) (Algebra.at B (q .0)) (Algebra.at B (z .poly)) ∙ ap (λ y. Algebra._⊕_ B y (Algebra._⊕_ B (Algebra.at B (q .0)) (Algebra.⊖ B (Algebra.at B (z .poly))))) (Algebra.minus-minus B (Algebra.at B p) (Algebra.at B (q .0)) (Algebra.shift B (u .0 .0) (v .a) (Algebra.at B (nth T k))) w));
         }
 
-    -- ---- what is left of terms below h is below h
+    -- what is left of terms below h is below h
     reduces-nil : {room : ℕ} {h : Poly} {o : Outcome} → Reduces F O D N (map raw T) room h o → h ≡ [] → (g : Poly) → o ≡ left g → g ≡ []
     reduces-nil (done i) e g d = cc
     reduces-nil (wide r f) e g d = let z : _≡_ {A = ℕ} 0 1 = cc in absurd (omega arith)

@@ -166,7 +166,7 @@ module _ (S : Setting) (W : Lawful S) where
   abbrev pub minus : Typed → Typed → Algebra.V B
   minus p q = Algebra._⊕_ B (Algebra.at B p) (Algebra.⊖ B (Algebra.at B q))
 
-  -- ---- ideals
+  -- ideals
   abbrev pub total : List Typed → List Typed → Algebra.V B
   total [] gs = Algebra.𝟎 B
   total (a ∷ more) [] = Algebra.𝟎 B
@@ -257,7 +257,7 @@ module _ (S : Setting) (W : Lawful S) where
       subst (λ x. Member F N (map raw gs) x ↔ Member F N (map raw hs) x) (t .1)
       (λ m. span-member hs (t .0) (Algebra.span-trans B p (member-span gs (t .0) m)), λ m. span-member gs (t .0) (Algebra.span-trans B q (member-span hs (t .0) m)))
 
-  -- ---- one action
+  -- one action
   pub raw-row : (T : List Typed) (i : ℕ) → getD (map raw T) i [] ≡ raw (getD T i [])
   raw-row [] i = refl
   raw-row (p ∷ T) zero = refl
@@ -291,11 +291,19 @@ module _ (S : Setting) (W : Lawful S) where
       let e : Algebra.at B g ≡ Algebra.at B (h ++ Algebra.negated B s) = from-equal g (h ++ Algebra.negated B s) (rw (raw-minus h s, ← (raw-multiple T t k)) (d .value)) in
       e ∙ Algebra.at-++ B h (Algebra.negated B s) ∙ ap (Algebra._⊕_ B (Algebra.at B h)) (Algebra.at-negated B s ∙ ap (Algebra.⊖ B) (Algebra.at-scaled B (t .0) a r))
 
+  pub at-minus : (f g : Typed) → Algebra.at B (f ++ Algebra.negated B g) ≡ minus f g
+  at-minus f g = Algebra.at-++ B f (Algebra.negated B g) ∙ ap (Algebra._⊕_ B (Algebra.at B f)) (Algebra.at-negated B g)
+
+  pub mem-raw : (T : List Typed) {p : Typed} → List·Memᴰ p T → List·Memᴰ (raw p) (map raw T)
+  mem-raw [] h = elim h [ ]
+  mem-raw (x ∷ T) (List·Memᴰ·head e) = List·Memᴰ·head (ap raw e)
+  mem-raw (x ∷ T) (List·Memᴰ·tail h) = List·Memᴰ·tail (mem-raw T h)
+
   pub raw-term : (p : Typed) {t : Term} → List·Memᴰ t (raw p) → (u : Code F × Mono N) × List·Memᴰ u p × (t ≡ term (u .0 .0) (u .1 .0))
   raw-term [] h = elim h [ ]
   raw-term (u ∷ p) h = ⊎-elim (λ e. (u, List·Memᴰ·head refl, e)) (λ k. let r = raw-term p k in (r .0, List·Memᴰ·tail (r .1), r .2)) (List·Memᴰ·cases-cons h)
 
-  -- ---- a row divided by its leading coefficient
+  -- a row divided by its leading coefficient
   pub record Inverse (c : Code F) : Type 0 where
     pub code : Code F
     pub is : code .0 ≡ F .inv (c .0)
@@ -327,7 +335,7 @@ module _ (S : Setting) (W : Lawful S) where
   nonzero-scaled c a [] h n t m = elim m [ ]
   nonzero-scaled c a (s ∷ p) h n t m = ⊎-elim (λ e. rw e (product-pos c (s .0) h (n _ (List·Memᴰ·head refl)))) (λ k. nonzero-scaled c a p h (λ x k. n x (List·Memᴰ·tail k)) t k) (List·Memᴰ·cases-cons m)
 
-  -- ---- written lists
+  -- written lists
   pub under-irr : (u : Mono N) → Beneath N O u u → ⊥
   under-irr u h = let z : Less ≡ Same = sym h ∙ Q .equal (u .0) (u .0) (u .1 .wide) (u .1 .wide) .1 refl in let y : _≡_ {A = ℕ} 0 1 = cc in omega arith
 

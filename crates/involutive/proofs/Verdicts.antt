@@ -23,7 +23,7 @@ use Rattle.involutive.proofs.Monomials
 use Rattle.involutive.proofs.Ideals
 use Rattle.involutive.proofs.Soundness
 use Rattle.involutive.specs.Sound.{Row, Sound}
-use Rattle.involutive.proofs.ClosedSheets
+use Rattle.involutive.proofs.Sheets
 
 module _ (S : Setting) (W : Lawful S) where
   abbrev F : FieldMeaning
@@ -74,7 +74,7 @@ module _ (S : Setting) (W : Lawful S) where
   pub verdict : (s : State) → Sound S s → Closed S s → Member F N (s .rows) unit ↔ UnitRow s
   verdict s I c = (
     λ m.
-        let r = ClosedSheets.lead-divisor S W s I c (term 1 one) [] unit-written m in
+        let r = Sheets.lead-divisor S W s I c (term 1 one) [] unit-written m in
         let w : Within (r .0) (length (s .rows)) = rw (length-map (s .rows) leading) at (r .1 .within) in
         record { k = r .0; within = w; leads = divides-one (leading (row (s .rows) (r .0))) (Soundness.row-wide S W I (r .0)) (subst (λ x. Divides x one) (Soundness.lead-at (s .rows) (r .0 - 1) (omega arith)) (r .1 .divides)) },
     λ u.

@@ -1,4 +1,5 @@
--- The table of a sound, closed state.
+-- What the theory of tables says of sheets, over lists of terms: what reducing leaves, and on a closed sheet what is irreducible,
+-- what leads, and what the copies generate.
 use mathlib.Core.Path.{_≡_, sym, _∙_, ap, subst, subst₂}
 use mathlib.Core.Bool.{Bool, false}
 use mathlib.Core.List.{List, [], _∷_, _++_, map, List·Memᴰ}
@@ -12,13 +13,13 @@ use Rattle.monomial.specs.Monomial.{variable, Divides}
 use Rattle.monomial.specs.Order.{Compare}
 use Rattle.monomial.specs.Division.{Split, Within, Involutive, member}
 use Rattle.involutive.specs.Value
-use Rattle.polynomial.specs.Polynomial.{Poly, exponents, Written}
+use Rattle.polynomial.specs.Polynomial.{Poly, Over, exponents, Written}
 use Rattle.involutive.specs.Value.{leading}
 use Rattle.involutive.specs.Ideal.{Member, SameIdeal}
 use Rattle.involutive.specs.Reduction.{Table, row, leaders, left, Irreducible, Reduces}
 use Rattle.involutive.specs.Sheet.{Setting, State, Pair, Closed, Lawful}
 use Rattle.polynomial.specs.Check.{most-terms}
-use Rattle.involutive.specs.Answers.{Minimal, Selection, Copies, copies}
+use Rattle.involutive.specs.Answers.{ReducesTo, Minimal, Selection, Copies, copies}
 use Rattle.involutive.proofs.Algebra
 use Rattle.involutive.proofs.Algebra.{Base, Span}
 use Rattle.involutive.proofs.Monomials
@@ -32,28 +33,29 @@ use Rattle.involutive.proofs.Tables
 use Rattle.involutive.proofs.ClosedTables
 
 module _ (S : Setting) (W : Lawful S) where
-  abbrev pub F : FieldMeaning
+  abbrev F : FieldMeaning
   F = S .field
 
-  abbrev pub L : FieldLaws F
+  abbrev L : FieldLaws F
   L = W .field
 
-  abbrev pub N : ℕ
+  abbrev N : ℕ
   N = S .variables
 
-  abbrev pub O : Compare
+  abbrev O : Compare
   O = S .order
 
-  abbrev pub Typed : Type 0
+  abbrev Typed : Type 0
   Typed = Typing.Typed S W
 
-  abbrev pub raw : Typed → Poly
+  abbrev raw : Typed → Poly
   raw = Typing.raw S W
 
-  abbrev pub B : Base
+  abbrev B : Base
   B = base L N
 
-  abbrev pub st : Table → (ℕ → ℕ → Bool) → State
+  -- a sheet with these rows
+  abbrev st : Table → (ℕ → ℕ → Bool) → State
   st R m = record { rows = R; marks = m }
 
   abbrev D : Split
@@ -63,32 +65,28 @@ module _ (S : Setting) (W : Lawful S) where
   closing : (T : List Typed) (m : ℕ → ℕ → Bool) → Sound S (st (map raw T) m) → Closed S (st (map raw T) m) → (k v : ℕ) → Within k (length T) → Within v N → D (leaders (map raw T)) k v ≡ Some false → (room : ℕ) × Reduces F O D N (map raw T) room (Value.scaled F 1 (variable v) (row (map raw T) k)) (left [])
   closing T m I c k u x y d = let p : Pair S (st (map raw T) m) k u = record { at-row = rw (length-map T raw) x; at-variable = y; not-multiplicative = d } in (most-terms, I .marked k u p (c k u p))
 
-  -- irreducible polynomials that differ by what the rows span are the same
-  core′ : (T : List Typed) (m : ℕ → ℕ → Bool) → Sound S (st (map raw T) m) → Closed S (st (map raw T) m) → (p q : Typed) → Written F O N (raw p) → Written F O N (raw q) → Irreducible F O (S .division) N (map raw T) (raw p) → Irreducible F O (S .division) N (map raw T) (raw q) → Span B T (Typing.minus S W p q) → p ≡ q
-  core′ T m I c p q w v i j h = ClosedTables.one-remainder S W T (Tables.typed-good S W T m I) (closing T m I c)
-      p q (Typing.written-sorted S W p w) (Typing.written-sorted S W q v) i j h
-
-  pub core : (R : Table) (m : ℕ → ℕ → Bool) → Sound S (st R m) → Closed S (st R m) → (T : List Typed) → map raw T ≡ R → (p q : Typed) → Written F O N (raw p) → Written F O N (raw q) → Irreducible F O (S .division) N R (raw p) → Irreducible F O (S .division) N R (raw q) → Span B T (Typing.minus S W p q) → p ≡ q
-  core R m I c T e = subst (λ R. Sound S (st R m) → Closed S (st R m) → (p q : Typed) → Written F O N (raw p) → Written F O N (raw q) → Irreducible F O (S .division) N R (raw p) → Irreducible F O (S .division) N R (raw q) → Span B T (Typing.minus S W p q) → p ≡ q) e (core′ T m) I c
-
-  -- and one that differs so from a sum of two has the sum's value
-  pub core-sum : (R : Table) (m : ℕ → ℕ → Bool) → Sound S (st R m) → Closed S (st R m) → (T : List Typed) → map raw T ≡ R → (p q r : Typed) → Irreducible F O (S .division) N R (raw p) → Irreducible F O (S .division) N R (raw q) → Irreducible F O (S .division) N R (raw r) → Span B T (Algebra._⊕_ B (Algebra.at B p) (Algebra.⊖ B (Algebra._⊕_ B (Algebra.at B q) (Algebra.at B r)))) → Algebra.at B p ≡ Algebra._⊕_ B (Algebra.at B q) (Algebra.at B r)
-  core-sum R m I c T e = subst (λ R. Sound S (st R m) → Closed S (st R m) → (p q r : Typed) → Irreducible F O (S .division) N R (raw p) → Irreducible F O (S .division) N R (raw q) → Irreducible F O (S .division) N R (raw r) → Span B T (Algebra._⊕_ B (Algebra.at B p) (Algebra.⊖ B (Algebra._⊕_ B (Algebra.at B q) (Algebra.at B r)))) → Algebra.at B p ≡ Algebra._⊕_ B (Algebra.at B q) (Algebra.at B r)) e
-      (λ I c. ClosedTables.sum-remainder S W T (Tables.typed-good S W T m I) (closing T m I c)) I c
-
-  -- ---- the same, of lists of terms
-  -- the rows of a sound state are typed
-  pub on-sound : (s : State) → Sound S s → (Q : Table → Type 0) → ((T : List Typed) → Sound S (st (map raw T) (s .marks)) → Q (map raw T)) → Q (s .rows)
+  -- the rows of a sound sheet are typed
+  on-sound : (s : State) → Sound S s → (Q : Table → Type 0) → ((T : List Typed) → Sound S (st (map raw T) (s .marks)) → Q (map raw T)) → Q (s .rows)
   on-sound s I Q h =
       let x = Typing.typeds S W (s .rows) (λ p m. I .each p m .acceptable .written .over) in
       subst (λ R. Sound S (st R (s .marks)) → Q R) (x .1) (h (x .0)) I
 
-  pub on-typed : (s : State) → Sound S s → Closed S s → (Q : Table → Type 0) → ((T : List Typed) → Sound S (st (map raw T) (s .marks)) → Closed S (st (map raw T) (s .marks)) → Q (map raw T)) → Q (s .rows)
-  on-typed s I c Q h = on-sound s I (λ R. Closed S (st R (s .marks)) → Q R) h c
+  on-closed : (s : State) → Sound S s → Closed S s → (Q : Table → Type 0) → ((T : List Typed) → Sound S (st (map raw T) (s .marks)) → Closed S (st (map raw T) (s .marks)) → Q (map raw T)) → Q (s .rows)
+  on-closed s I c Q h = on-sound s I (λ R. Closed S (st R (s .marks)) → Q R) h c
+
+  pub rows-over : {s : State} → Sound S s → Ideals.Overs F N (s .rows)
+  rows-over I f h = I .each f h .acceptable .written .over
+
+  -- what reducing takes off lies in the ideal of the rows
+  pub reduced-member : {s : State} → Sound S s → {room : ℕ} (h g : Poly) → Written F O N h → ReducesTo S s room h (left g) → Member F N (s .rows) (Value.minus F h g)
+  reduced-member {s} I {room} h g w = on-sound s I (λ R. Reduces F O D N R room h (left g) → Member F N R (Value.minus F h g)) (λ T J r.
+      let p = Typing.typed S W h (w .over) in
+      let z = Tables.left-over S W T (Tables.typed-good S W T (s .marks) J) {room = room} (p .0) {g = g} (subst (λ h. Reduces F O D N (map raw T) room h (left g)) (sym (p .1)) r) (Typing.written-sorted S W (p .0) (subst (Written F O N) (sym (p .1)) w)) in
+      subst₂ (λ h g. Member F N (map raw T) (Value.minus F h g)) (p .1) (z .is) (Ideals.from-span S W T (p .0) (z .poly) (z .span)))
 
   -- the leading monomial of a member has an involutive divisor
   pub lead-divisor : (s : State) → Sound S s → Closed S s → (t : Term) (f : Poly) → Written F O N (t ∷ f) → Member F N (s .rows) (t ∷ f) → (k : ℕ) × Involutive D (leaders (s .rows)) k (exponents t)
-  lead-divisor s I c = on-typed s I c (λ R. (t : Term) (f : Poly) → Written F O N (t ∷ f) → Member F N R (t ∷ f) → (k : ℕ) × Involutive D (leaders R) k (exponents t))
+  lead-divisor s I c = on-closed s I c (λ R. (t : Term) (f : Poly) → Written F O N (t ∷ f) → Member F N R (t ∷ f) → (k : ℕ) × Involutive D (leaders R) k (exponents t))
       (λ T J d t f w m. go T J d (Typing.typed S W (t ∷ f) (w .over)) w m)
     where
       go : {t : Term} {f : Poly} (T : List Typed) → Sound S (st (map raw T) (s .marks)) → Closed S (st (map raw T) (s .marks)) → (p : Typed) × (raw p ≡ t ∷ f) → Written F O N (t ∷ f) → Member F N (map raw T) (t ∷ f) → (k : ℕ) × Involutive D (leaders (map raw T)) k (exponents t)
@@ -99,17 +97,27 @@ module _ (S : Setting) (W : Lawful S) where
 
   -- irreducible polynomials that differ by a member are the same
   pub one-remainder : (s : State) → Sound S s → Closed S s → (f g : Poly) → Written F O N f → Written F O N g → Irreducible F O D N (s .rows) f → Irreducible F O D N (s .rows) g → Member F N (s .rows) (Value.minus F f g) → f ≡ g
-  one-remainder s I c = on-typed s I c (λ R. (f g : Poly) → Written F O N f → Written F O N g → Irreducible F O D N R f → Irreducible F O D N R g → Member F N R (Value.minus F f g) → f ≡ g)
-      (λ T J d f g v w i j m.
+  one-remainder s I c f g v w = on-closed s I c (λ R. Irreducible F O D N R f → Irreducible F O D N R g → Member F N R (Value.minus F f g) → f ≡ g)
+      (λ T J d i j m.
       let p = Typing.typed S W f (v .over) in
       let q = Typing.typed S W g (w .over) in
-      let u : Typed = p .0 ++ Algebra.negated B (q .0) in
-      let e : raw u ≡ Value.minus F f g = Typing.raw-minus S W (p .0) (q .0) ∙ (λ i. Value.minus F (p .1 i) (q .1 i)) in
-      let k : Algebra.at B u ≡ Typing.minus S W (p .0) (q .0) = Algebra.at-++ B (p .0) (Algebra.negated B (q .0)) ∙ ap (Algebra._⊕_ B (Algebra.at B (p .0))) (Algebra.at-negated B (q .0)) in
-      sym (p .1) ∙ ap raw (core′ T (s .marks) J d (p .0) (q .0) (subst (Written F O N) (sym (p .1)) v) (subst (Written F O N) (sym (q .1)) w) (subst (Irreducible F O D N (map raw T)) (sym (p .1)) i) (subst (Irreducible F O D N (map raw T)) (sym (q .1)) j)
-      (subst (Span B T) k (Typing.member-span S W T u (subst (Member F N (map raw T)) (sym e) m)))) ∙ q .1)
+      sym (p .1) ∙ ap raw (ClosedTables.one-remainder S W T (Tables.typed-good S W T (s .marks) J) (closing T (s .marks) J d) (p .0) (q .0)
+      (Typing.written-sorted S W (p .0) (subst (Written F O N) (sym (p .1)) v)) (Typing.written-sorted S W (q .0) (subst (Written F O N) (sym (q .1)) w))
+      (subst (Irreducible F O D N (map raw T)) (sym (p .1)) i) (subst (Irreducible F O D N (map raw T)) (sym (q .1)) j)
+      (Ideals.to-span S W T (p .0) (q .0) (subst₂ (λ f g. Member F N (map raw T) (Value.minus F f g)) (sym (p .1)) (sym (q .1)) m))) ∙ q .1)
 
-  -- ---- copies
+  -- and one that differs so from a sum of two has the sum's value
+  pub sum-remainder : (s : State) → Sound S s → Closed S s → (f : Poly) → Over F N f → (g : Poly) → Over F N g → (h : Poly) → Over F N h →
+      Irreducible F O D N (s .rows) f → Irreducible F O D N (s .rows) g → Irreducible F O D N (s .rows) h → Member F N (s .rows) (Value.minus F f (Value.plus g h)) → Value.Equal F f (Value.plus g h)
+  sum-remainder s I c = Ideals.each S W _ (λ p. Ideals.each S W _ (λ q. Ideals.each S W _ (λ r.
+      on-closed s I c (λ R. Irreducible F O D N R (raw p) → Irreducible F O D N R (raw q) → Irreducible F O D N R (raw r) → Member F N R (Value.minus F (raw p) (Value.plus (raw q) (raw r))) → Value.Equal F (raw p) (Value.plus (raw q) (raw r)))
+      (λ T J d i j k m.
+      let a = Algebra.at-++ B q r in
+      let e = ClosedTables.sum-remainder S W T (Tables.typed-good S W T (s .marks) J) (closing T (s .marks) J d) p q r i j k
+      (subst (λ v. Span B T (Algebra._⊕_ B (Algebra.at B p) (Algebra.⊖ B v))) a (Ideals.to-span S W T p (q ++ r) (subst (λ x. Member F N (map raw T) (Value.minus F (raw p) x)) (sym (Typing.raw-++ S W q r)) m))) in
+      subst (Value.Equal F (raw p)) (Typing.raw-++ S W q r) (Typing.to-equal S W p (q ++ r) (e ∙ sym a))))))
+
+  -- copies
   abbrev Tidied : (T : List Typed) (m : ℕ → ℕ → Bool) → Sound S (st (map raw T) m) → (k : ℕ) → Within k (length T) → Poly → Type 0
   Tidied T m I k w f = Tables.Tidied S W T (Tables.typed-good S W T m I) (k, w) f
 
@@ -146,7 +154,7 @@ module _ (S : Setting) (W : Lawful S) where
 
   -- the copies generate the ideal of the rows
   pub copies-ideal : (s : State) → Sound S s → Closed S s → (ks : List ℕ) (fs : List Poly) → Selection S s ks → Copies S s ks (copies fs) → SameIdeal F N (s .rows) fs
-  copies-ideal s I c ks fs sel cop = on-typed s I c (λ R. Selection S (st R (s .marks)) ks → Copies S (st R (s .marks)) ks (copies fs) → SameIdeal F N R fs) go sel cop
+  copies-ideal s I c ks fs sel cop = on-closed s I c (λ R. Selection S (st R (s .marks)) ks → Copies S (st R (s .marks)) ks (copies fs) → SameIdeal F N R fs) go sel cop
     where
       m : ℕ → ℕ → Bool
       m = s .marks
@@ -159,7 +167,7 @@ module _ (S : Setting) (W : Lawful S) where
           let r = Ideals.raw-memᴰ S W (P .0) (subst (List·Memᴰ (a .f)) (sym (P .1)) (a .stands)) in
           record { poly = t .poly; inside = subst (Span B (P .0)) (Typing.same-value S W (r .0) (t .poly) (r .2 ∙ sym (t .is))) (Algebra.span-gen B (r .1)); monic = t .monic; leads = t .leads; span = t .span }))
           (λ h k.
-          let a = copy-from S (st (map raw T) m) b (raw h) (subst (List·Memᴰ (raw h)) (P .1) (Tables.mem-raw S W (P .0) k)) in
+          let a = copy-from S (st (map raw T) m) b (raw h) (subst (List·Memᴰ (raw h)) (P .1) (Typing.mem-raw S W (P .0) k)) in
           let w : Within (a .k) (length T) = rw (length-map T raw) at (sel .minimal (a .k) .0 (a .stands) .within) in
           let t = tidied T m J (a .k) w (a .copy) in
           subst (Span B T) (Typing.same-value S W (t .poly) h (t .is)) (tidied-span T m J (a .k) w t)))
