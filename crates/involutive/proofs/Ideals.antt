@@ -86,10 +86,6 @@ module _ (S : Setting) (W : Lawful S) where
   equal-plus = each _ (λ p. each _ (λ p′. each _ (λ q. each _ (λ q′ e d.
       to (p ++ q) (p′ ++ q′) (Typing.raw-++ S W p q) (Typing.raw-++ S W p′ q′) (cc (Algebra.at-++ B p q, Algebra.at-++ B p′ q′, Typing.from-equal S W p p′ e, Typing.from-equal S W q q′ d))))))
 
-  pub equal-product : (f : Poly) → Over F N f → (f′ : Poly) → Over F N f′ → (g : Poly) → Over F N g → (g′ : Poly) → Over F N g′ → Equal F f f′ → Equal F g g′ → Equal F (product F f g) (product F f′ g′)
-  equal-product = each _ (λ p. each _ (λ p′. each _ (λ q. each _ (λ q′ e d.
-      to (Algebra.product B p q) (Algebra.product B p′ q′) (Typing.raw-product S W p q) (Typing.raw-product S W p′ q′) (Algebra.product-cong B p p′ q q′ (Typing.from-equal S W p p′ e) (Typing.from-equal S W q q′ d))))))
-
   pub equal-negated : (f : Poly) → Over F N f → (f′ : Poly) → Over F N f′ → Equal F f f′ → Equal F (negated F f) (negated F f′)
   equal-negated = each _ (λ p. each _ (λ p′ e.
       to (Algebra.negated B p) (Algebra.negated B p′) (Typing.raw-negated S W p) (Typing.raw-negated S W p′) (cc (Algebra.at-negated B p, Algebra.at-negated B p′, Typing.from-equal S W p p′ e))))
@@ -97,37 +93,12 @@ module _ (S : Setting) (W : Lawful S) where
   pub equal-minus : (f : Poly) → Over F N f → (f′ : Poly) → Over F N f′ → (g : Poly) → Over F N g → (g′ : Poly) → Over F N g′ → Equal F f f′ → Equal F g g′ → Equal F (minus F f g) (minus F f′ g′)
   equal-minus f o f′ o′ g p g′ p′ e d = equal-plus f o f′ o′ (negated F g) (over-negated g p) (negated F g′) (over-negated g′ p′) e (equal-negated g p g′ p′ d)
 
-  pub equal-scaled : (c : ℕ) (a : List ℕ) → c < F .q → In N a → (f : Poly) → Over F N f → (f′ : Poly) → Over F N f′ → Equal F f f′ → Equal F (scaled F c a f) (scaled F c a f′)
-  equal-scaled c a h w = each _ (λ p. each _ (λ p′ e.
-      to (Algebra.scaled B (c, h) (a, w) p) (Algebra.scaled B (c, h) (a, w) p′) (Typing.raw-scaled S W (c, h) (a, w) p) (Typing.raw-scaled S W (c, h) (a, w) p′) (cc (Algebra.at-scaled B (c, h) (a, w) p, Algebra.at-scaled B (c, h) (a, w) p′, Typing.from-equal S W p p′ e))))
-
-  pub product-assoc : (f : Poly) → Over F N f → (g : Poly) → Over F N g → (h : Poly) → Over F N h → Equal F (product F (product F f g) h) (product F f (product F g h))
-  product-assoc = each _ (λ p. each _ (λ q. each _ (λ r.
-      to (Algebra.product B (Algebra.product B p q) r) (Algebra.product B p (Algebra.product B q r)) (Typing.raw-product S W (Algebra.product B p q) r ∙ ap (λ x. product F x (raw r)) (Typing.raw-product S W p q)) (Typing.raw-product S W p (Algebra.product B q r) ∙ ap (product F (raw p)) (Typing.raw-product S W q r)) (Algebra.product-assoc B p q r))))
-
-  pub product-plus : (f : Poly) → Over F N f → (g : Poly) → Over F N g → (h : Poly) → Over F N h → Equal F (product F f (plus g h)) (plus (product F f g) (product F f h))
-  product-plus = each _ (λ p. each _ (λ q. each _ (λ r.
-      to {f = product F (raw p) (plus (raw q) (raw r))} {g = plus (product F (raw p) (raw q)) (product F (raw p) (raw r))} (Algebra.product B p (q ++ r)) (Algebra.product B p q ++ Algebra.product B p r) (cc (Typing.raw-product S W p (q ++ r), Typing.raw-++ S W q r)) (cc (Typing.raw-++ S W (Algebra.product B p q) (Algebra.product B p r), Typing.raw-product S W p q, Typing.raw-product S W p r))
-      (cc (Algebra.at-product B p (q ++ r), Algebra.at-++ B q r, Algebra.act-⊕ B p (Algebra.at B q) (Algebra.at B r), Algebra.at-product B p q, Algebra.at-product B p r, Algebra.at-++ B (Algebra.product B p q) (Algebra.product B p r))))))
-
-  pub product-comm : (f : Poly) → Over F N f → (g : Poly) → Over F N g → Equal F (product F f g) (product F g f)
-  product-comm = each _ (λ p. each _ (λ q. to (Algebra.product B p q) (Algebra.product B q p) (Typing.raw-product S W p q) (Typing.raw-product S W q p) (Algebra.product-comm B p q)))
-
   -- Member
   pub member-equal : {gs : List Poly} {f g : Poly} → Equal F g f → Member F N gs f → Member F N gs g
   member-equal e h = record { multipliers = h .multipliers; each = h .each; over = h .over; sum = λ m. e m ∙ h .sum m }
 
   member : (gs : List Typed) (p : Typed) {f : Poly} → raw p ≡ f → Span B gs (Algebra.at B p) → Member F N (map raw gs) f
   member gs p e h = subst (Member F N (map raw gs)) e (Typing.span-member S W gs p h)
-
-  pub member-plus : (gs : List Poly) → Overs F N gs → (f : Poly) → Over F N f → (g : Poly) → Over F N g → Member F N gs f → Member F N gs g → Member F N gs (plus f g)
-  member-plus = eachs _ (λ gs. each _ (λ p. each _ (λ q h k. member gs (p ++ q) (Typing.raw-++ S W p q) (rw (Algebra.at-++ B p q) (Algebra.span-⊕ B (Typing.member-span S W gs p h) (Typing.member-span S W gs q k))))))
-
-  pub member-negated : (gs : List Poly) → Overs F N gs → (f : Poly) → Over F N f → Member F N gs f → Member F N gs (negated F f)
-  member-negated = eachs _ (λ gs. each _ (λ p h. member gs (Algebra.negated B p) (Typing.raw-negated S W p) (rw (Algebra.at-negated B p) (Algebra.span-⊖ B (Typing.member-span S W gs p h)))))
-
-  pub member-product : (gs : List Poly) → Overs F N gs → (f : Poly) → Over F N f → (g : Poly) → Over F N g → Member F N gs g → Member F N gs (product F f g)
-  member-product = eachs _ (λ gs. each _ (λ p. each _ (λ q h. member gs (Algebra.product B p q) (Typing.raw-product S W p q) (rw (Algebra.at-product B p q) (Algebra.span-act B p (Typing.member-span S W gs q h))))))
 
   pub member-scaled : (c : ℕ) (a : List ℕ) → c < F .q → In N a → (gs : List Poly) → Overs F N gs → (f : Poly) → Over F N f → Member F N gs f → Member F N gs (scaled F c a f)
   member-scaled c a h w = eachs _ (λ gs. each _ (λ p k. member gs (Algebra.scaled B (c, h) (a, w) p) (Typing.raw-scaled S W (c, h) (a, w) p) (rw (Algebra.at-scaled B (c, h) (a, w) p) (Algebra.span-shift B (c, h) (a, w) (Typing.member-span S W gs p k)))))

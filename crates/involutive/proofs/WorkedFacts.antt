@@ -59,10 +59,6 @@ module _ (S : Setting) (W : Lawful S) (calls : List Call) (gs T fs : List Poly) 
       run S calls >>= λ x. same-polys? (x .accepted) gs >>= λ p. same-polys? (x .state .rows) T >>= λ q. fair-copy? S (x .state) >>= λ y. same-polys? (y .polys) fs >>= λ r.
       verdict? S W (x .state) (Soundness.sound S W (x .after)) (y .closed) v >>= λ j. Some (end x p q y r j)
 
--- a new sheet, in every lawful setting
-pub new-sheet : (S : Setting) → Lawful S → Ends S [] [] [] [] 0
-new-sheet S W = given (ends? S W [] [] [] [] 0) tt
-
 -- the facts
 -- what no computation shows, that a setting keeps its laws: the verdict rests on it
 abbrev Laws : Fact → Type 0
