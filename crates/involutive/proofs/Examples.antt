@@ -29,7 +29,8 @@ use Rattle.involutive.proofs.Soundness
 use Rattle.involutive.proofs.Monomials
 use Rattle.involutive.proofs.Verdicts
 use Rattle.involutive.proofs.Completeness.{complete}
-use Rattle.involutive.proofs.Evaluate.{_>>=_, given, fails, lt?, same?, missing, fuel, reduce, Copy, fair-copy?, closed?, run}
+use Rattle.involutive.proofs.Decided.{_>>=_, given, fails, lt?, same?, missing}
+use Rattle.involutive.proofs.Evaluate.{fuel, reduce, Copy, fair-copy?, closed?, run}
 use Rattle.involutive.proofs.WorkedFacts.{no-unit?, three-lawful}
 
 -- lists of numbers that the test tells apart

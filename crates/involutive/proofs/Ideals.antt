@@ -15,6 +15,7 @@ use Rattle.involutive.proofs.Algebra.{Base, Span}
 use Rattle.involutive.proofs.Monomials
 use Rattle.involutive.proofs.Monomials.{Mono}
 use Rattle.involutive.proofs.Typing
+use Rattle.involutive.proofs.Membership
 use Rattle.involutive.proofs.Typing.{Code, base}
 
 abbrev pub Overs : FieldMeaning → ℕ → List Poly → Type 0
@@ -98,14 +99,14 @@ module _ (S : Setting) (W : Lawful S) where
   member-equal e h = record { multipliers = h .multipliers; each = h .each; over = h .over; sum = λ m. e m ∙ h .sum m }
 
   member : (gs : List Typed) (p : Typed) {f : Poly} → raw p ≡ f → Span B gs (Algebra.at B p) → Member F N (map raw gs) f
-  member gs p e h = subst (Member F N (map raw gs)) e (Typing.span-member S W gs p h)
+  member gs p e h = subst (Member F N (map raw gs)) e (Membership.span-member S W gs p h)
 
   pub member-scaled : (c : ℕ) (a : List ℕ) → c < F .q → In N a → (gs : List Poly) → Overs F N gs → (f : Poly) → Over F N f → Member F N gs f → Member F N gs (scaled F c a f)
-  member-scaled c a h w = eachs _ (λ gs. each _ (λ p k. member gs (Algebra.scaled B (c, h) (a, w) p) (Typing.raw-scaled S W (c, h) (a, w) p) (rw (Algebra.at-scaled B (c, h) (a, w) p) (Algebra.span-shift B (c, h) (a, w) (Typing.member-span S W gs p k)))))
+  member-scaled c a h w = eachs _ (λ gs. each _ (λ p k. member gs (Algebra.scaled B (c, h) (a, w) p) (Typing.raw-scaled S W (c, h) (a, w) p) (rw (Algebra.at-scaled B (c, h) (a, w) p) (Algebra.span-shift B (c, h) (a, w) (Membership.member-span S W gs p k)))))
 
   -- differences that are members, as values that gs span
   pub to-span : (gs : List Typed) (p q : Typed) → Member F N (map raw gs) (minus F (raw p) (raw q)) → Span B gs (Typing.minus S W p q)
-  to-span gs p q h = subst (Span B gs) (Typing.at-minus S W p q) (Typing.member-span S W gs (p ++ Algebra.negated B q) (subst (Member F N (map raw gs)) (sym (Typing.raw-minus S W p q)) h))
+  to-span gs p q h = subst (Span B gs) (Typing.at-minus S W p q) (Membership.member-span S W gs (p ++ Algebra.negated B q) (subst (Member F N (map raw gs)) (sym (Typing.raw-minus S W p q)) h))
 
   pub from-span : (gs : List Typed) (p q : Typed) → Span B gs (Typing.minus S W p q) → Member F N (map raw gs) (minus F (raw p) (raw q))
   from-span gs p q h = member gs (p ++ Algebra.negated B q) (Typing.raw-minus S W p q) (subst (Span B gs) (sym (Typing.at-minus S W p q)) h)
@@ -119,11 +120,11 @@ module _ (S : Setting) (W : Lawful S) where
 
   -- u is a member, if u − v and v are
   pub member-from : (gs : List Poly) → Overs F N gs → (u : Poly) → Over F N u → (v : Poly) → Over F N v → Member F N gs (minus F u v) → Member F N gs v → Member F N gs u
-  member-from = eachs _ (λ gs. each _ (λ p. each _ (λ q h k. member gs p refl (Algebra.span-from B (Algebra.at B p) (Algebra.at B q) (to-span gs p q h) (Typing.member-span S W gs q k)))))
+  member-from = eachs _ (λ gs. each _ (λ p. each _ (λ q h k. member gs p refl (Algebra.span-from B (Algebra.at B p) (Algebra.at B q) (to-span gs p q h) (Membership.member-span S W gs q k)))))
 
   -- v is a member, if u − v and u are
   pub member-back : (gs : List Poly) → Overs F N gs → (u : Poly) → Over F N u → (v : Poly) → Over F N v → Member F N gs (minus F u v) → Member F N gs u → Member F N gs v
-  member-back = eachs _ (λ gs. each _ (λ p. each _ (λ q h k. member gs q refl (Algebra.span-back B (Algebra.at B p) (Algebra.at B q) (to-span gs p q h) (Typing.member-span S W gs p k)))))
+  member-back = eachs _ (λ gs. each _ (λ p. each _ (λ q h k. member gs q refl (Algebra.span-back B (Algebra.at B p) (Algebra.at B q) (to-span gs p q h) (Membership.member-span S W gs p k)))))
 
   -- u + v − (w + x) is a member, if u − w and v − x are
   pub member-sums : (gs : List Poly) → Overs F N gs → (u : Poly) → Over F N u → (v : Poly) → Over F N v → (w : Poly) → Over F N w → (x : Poly) → Over F N x → Member F N gs (minus F u w) → Member F N gs (minus F v x) → Member F N gs (minus F (plus u v) (plus w x))
@@ -148,7 +149,7 @@ module _ (S : Setting) (W : Lawful S) where
       let q : Typed = Algebra.scaled B (i .code) Monomials.unit p in
       let e : raw q ≡ scaled F (F .inv c) one (raw p) = Typing.raw-scaled S W (i .code) Monomials.unit p ∙ ap (λ d. scaled F d one (raw p)) (i .is) in
       member gs p refl (subst (Span B gs) (ap (Algebra.shift B (c, h) Monomials.unit) (Algebra.at-scaled B (i .code) Monomials.unit p) ∙ Algebra.shift-unit B (c, h) (i .code) (i .unit) (Algebra.at B p))
-      (Algebra.span-shift B (c, h) Monomials.unit (Typing.member-span S W gs q (subst (Member F N (map raw gs)) (sym e) k))))))
+      (Algebra.span-shift B (c, h) Monomials.unit (Membership.member-span S W gs q (subst (Member F N (map raw gs)) (sym e) k))))))
 
   -- of two members with the same first term, the others' difference is one
   pub member-tails : (t : Term) → (t .coefficient < F .q) × In N (exponents t) → (gs : List Poly) → Overs F N gs → (f : Poly) → Over F N f → (g : Poly) → Over F N g → Member F N gs (t ∷ f) → Member F N gs (t ∷ g) → Member F N gs (minus F f g)
@@ -157,7 +158,7 @@ module _ (S : Setting) (W : Lawful S) where
       let u : Code F × Mono N = ((t .coefficient, o .0), (exponents t, o .1)) in
       let x : Algebra.V B = Algebra.single B (u .0) (u .1) in
       let e : Algebra.at B (p ++ Algebra.negated B q) ≡ Algebra._⊕_ B (Algebra.at B (u ∷ p)) (Algebra.⊖ B (Algebra.at B (u ∷ q))) = Algebra.at-++ B p (Algebra.negated B q) ∙ ap (Algebra._⊕_ B (Algebra.at B p)) (Algebra.at-negated B q) ∙ sym (Algebra.minus-front B x (Algebra.at B p) (Algebra.at B q)) in
-      member gs (p ++ Algebra.negated B q) (Typing.raw-minus S W p q) (subst (Span B gs) (sym e) (Algebra.span-⊕ B (Typing.member-span S W gs (u ∷ p) h) (Algebra.span-⊖ B (Typing.member-span S W gs (u ∷ q) k)))))))
+      member gs (p ++ Algebra.negated B q) (Typing.raw-minus S W p q) (subst (Span B gs) (sym e) (Algebra.span-⊕ B (Membership.member-span S W gs (u ∷ p) h) (Algebra.span-⊖ B (Membership.member-span S W gs (u ∷ q) k)))))))
 
   pub raw-memᴰ : (gs : List Typed) {f : Poly} → List·Memᴰ f (map raw gs) → (p : Typed) × List·Memᴰ p gs × (raw p ≡ f)
   raw-memᴰ [] h = elim h [ ]
@@ -175,11 +176,11 @@ module _ (S : Setting) (W : Lawful S) where
 
   -- the ideals are the same where each generator is a member of the other
   pub same-ideal : (gs : List Poly) → Overs F N gs → (hs : List Poly) → Overs F N hs → ((g : Poly) → List·Memᴰ g gs → Member F N hs g) → ((h : Poly) → List·Memᴰ h hs → Member F N gs h) → SameIdeal F N gs hs
-  same-ideal = eachs _ (λ gs. eachs _ (λ hs p q. Typing.same-ideal S W gs hs (λ g m. Typing.member-span S W hs g (p (raw g) (Typing.mem-raw S W gs m))) (λ h m. Typing.member-span S W gs h (q (raw h) (Typing.mem-raw S W hs m)))))
+  same-ideal = eachs _ (λ gs. eachs _ (λ hs p q. Membership.same-ideal S W gs hs (λ g m. Membership.member-span S W hs g (p (raw g) (Typing.mem-raw S W gs m))) (λ h m. Membership.member-span S W gs h (q (raw h) (Typing.mem-raw S W hs m)))))
 
   -- members of the ideal of gs, where each of gs lies in that of hs
   pub member-through : (gs : List Poly) → Overs F N gs → (hs : List Poly) → Overs F N hs → ((g : Poly) → List·Memᴰ g gs → Member F N hs g) → (f : Poly) → Over F N f → Member F N gs f → Member F N hs f
-  member-through = eachs _ (λ gs. eachs _ (λ hs p. each _ (λ f m. Typing.span-member S W hs f (Algebra.span-trans B (λ g h. Typing.member-span S W hs g (p (raw g) (Typing.mem-raw S W gs h))) (Typing.member-span S W gs f m)))))
+  member-through = eachs _ (λ gs. eachs _ (λ hs p. each _ (λ f m. Membership.span-member S W hs f (Algebra.span-trans B (λ g h. Membership.member-span S W hs g (p (raw g) (Typing.mem-raw S W gs h))) (Membership.member-span S W gs f m)))))
 
   pub over-append : (gs hs : List Poly) → Overs F N gs → Overs F N hs → Overs F N (gs ++ hs)
   over-append gs hs o o′ g m = ⊎-elim (λ k. o g k) (λ k. o′ g k) (List·Memᴰ·append-cases gs m)

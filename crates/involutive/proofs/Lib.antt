@@ -3,6 +3,7 @@ pub mod Algebra
 pub mod Monomials
 pub mod Values
 pub mod Typing
+pub mod Membership
 pub mod Ideals
 pub mod Bytes
 pub mod Sums
@@ -20,6 +21,7 @@ pub mod Verdicts
 pub mod OneReduction
 pub mod OneChoice
 pub mod OneAnswer
+pub mod Decided
 pub mod Evaluate
 pub mod WorkedFacts
 pub mod Examples

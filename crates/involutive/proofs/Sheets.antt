@@ -25,6 +25,7 @@ use Rattle.involutive.proofs.Algebra.{Base, Span}
 use Rattle.involutive.proofs.Monomials
 use Rattle.involutive.proofs.Monomials.{Mono}
 use Rattle.involutive.proofs.Typing
+use Rattle.involutive.proofs.Membership
 use Rattle.involutive.proofs.Typing.{base}
 use Rattle.involutive.proofs.Ideals
 use Rattle.involutive.proofs.Copying.{CopyOf, Beside, beside, copy-from, copy-to}
@@ -92,7 +93,7 @@ module _ (S : Setting) (W : Lawful S) where
       go : {t : Term} {f : Poly} (T : List Typed) → Sound S (st (map raw T) (s .marks)) → Closed S (st (map raw T) (s .marks)) → (p : Typed) × (raw p ≡ t ∷ f) → Written F O N (t ∷ f) → Member F N (map raw T) (t ∷ f) → (k : ℕ) × Involutive D (leaders (map raw T)) k (exponents t)
       go T J d ([], e) w m = let z : _≡_ {A = ℕ} 0 (suc _) = ap length e in absurd (omega arith)
       go {t} {f} T J d (u ∷ p, e) w m =
-          let r = ClosedTables.lead-divisor S W T (Tables.typed-good S W T (s .marks) J) (closing T (s .marks) J d) u p (Typing.written-sorted S W (u ∷ p) (subst (Written F O N) (sym e) w)) (Typing.member-span S W T (u ∷ p) (subst (Member F N (map raw T)) (sym e) m)) in
+          let r = ClosedTables.lead-divisor S W T (Tables.typed-good S W T (s .marks) J) (closing T (s .marks) J d) u p (Typing.written-sorted S W (u ∷ p) (subst (Written F O N) (sym e) w)) (Membership.member-span S W T (u ∷ p) (subst (Member F N (map raw T)) (sym e) m)) in
           (r .0, subst (Involutive D (leaders (map raw T)) (r .0)) (ap leading e) (r .1))
 
   -- irreducible polynomials that differ by a member are the same
@@ -140,7 +141,7 @@ module _ (S : Setting) (W : Lawful S) where
       let m : Tables.Sorted S W (t .poly) = rw (t .monic .is) (t .monic .sorted) in
       record {
         good = subst (Written F O N) (t .is) (Typing.sorted-written S W (t .poly) m);
-        member = subst (Member F N (map raw T)) (t .is) (Typing.span-member S W T (t .poly) (tidied-span T (s .marks) J k u t));
+        member = subst (Member F N (map raw T)) (t .is) (Membership.span-member S W T (t .poly) (tidied-span T (s .marks) J k u t));
       }) w c
 
   lowest-minimal : (T : List Typed) (m : ℕ → ℕ → Bool) (I : Sound S (st (map raw T) m)) (k : ℕ) (w : Within k (length T)) → ((j : (k : ℕ) × Within k (length T)) (a : Mono N) → Typing.lead S W (getD T (k - 1) []) ≡ Monomials.mul (Typing.lead S W (getD T (j .0 - 1) [])) a → j .0 ≡ k) → Minimal S (st (map raw T) m) k
@@ -160,7 +161,7 @@ module _ (S : Setting) (W : Lawful S) where
       m = s .marks
 
       go : (T : List Typed) → Sound S (st (map raw T) m) → Closed S (st (map raw T) m) → Selection S (st (map raw T) m) ks → Copies S (st (map raw T) m) ks (copies fs) → SameIdeal F N (map raw T) fs
-      go T J d sel cop = subst (SameIdeal F N (map raw T)) (P .1) (Typing.same-ideal S W T (P .0)
+      go T J d sel cop = subst (SameIdeal F N (map raw T)) (P .1) (Membership.same-ideal S W T (P .0)
           (ClosedTables.regenerate-all S W T (Tables.typed-good S W T m J) (closing T m J d) (P .0) (λ k low.
           let a = copy-to S (st (map raw T) m) b (k .0) (sel .minimal (k .0) .1 (lowest-minimal T m J (k .0) (k .1) low)) in
           let t = tidied T m J (k .0) (k .1) (a .copy) in

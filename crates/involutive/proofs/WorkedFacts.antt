@@ -26,7 +26,8 @@ use Rattle.monomial.proofs.Divisions.{janet-laws}
 use Rattle.monomial.proofs.Orders.{lexicographic-laws}
 use Rattle.field.specs.Primes
 use Rattle.field.proofs.PrimeLaws.{prime-laws}
-use Rattle.involutive.proofs.Evaluate.{_>>=_, is-some, given, fails, eq?, same?, under?, within?, says?, all?, some?, same-polys?, Copy, fair-copy?, Ran, run}
+use Rattle.involutive.proofs.Decided.{_>>=_, is-some, given, fails, eq?, same?, under?, within?, says?, all?, some?, same-polys?}
+use Rattle.involutive.proofs.Evaluate.{Copy, fair-copy?, Ran, run}
 
 -- no row has the leading monomial 1
 module _ (s : State) where
