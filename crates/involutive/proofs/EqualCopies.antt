@@ -20,6 +20,7 @@ use Rattle.involutive.specs.Answers.{Answer, copied-answer, front, Minimal, Se
 use Rattle.polynomial.specs.Bytes.{copy-bytes}
 use Rattle.involutive.specs.Log.{Call, After}
 use Rattle.involutive.specs.Complete.{GrantedCopy, under-division, Copies-decide}
+use Rattle.monomial.proofs.Places.{agree-all, low}
 use Rattle.involutive.proofs.Lists
 use Rattle.involutive.proofs.Monomials
 use Rattle.involutive.proofs.Ideals
@@ -34,7 +35,10 @@ divides-trans : (u m n : List ℕ) → Divides u m → Divides m n → Divides u
 divides-trans u m n h k v = omega (arith, h v, k v)
 
 divides-both : (u m : List ℕ) → Wide u → Wide m → Divides u m → Divides m u → u ≡ m
-divides-both u m a b h k = Lists.same-entries u m (a ∙ sym b) (λ i. let e : suc i - 1 ≡ i = omega arith in let x = h (suc i) in let y = k (suc i) in let p : getD u i 0 ≤ getD m i 0 = rw e at x in let q : getD m i 0 ≤ getD u i 0 = rw e at y in omega arith)
+divides-both u m a b h k = agree-all u m (a ∙ sym b) (λ i l.
+    let p : getD u i 0 ≤ getD m i 0 = rw (low i) at (h (suc i)) in
+    let q : getD m i 0 ≤ getD u i 0 = rw (low i) at (k (suc i)) in
+    omega arith)
 
 -- the bytes of a granted fair copy are those of the copied rows
 record CopiedBytes (S : Setting) (s : State) (b : List ℕ) : Type 0 where
@@ -91,22 +95,22 @@ module _ (S : Setting) (W : Lawful S) where
   asym u m a b h k = let z : Less ≡ Same = sym (Q .transitive u m u a b a h k) ∙ Q .equal u u a a .1 refl in let y : _≡_ {A = ℕ} 0 1 = cc in omega arith
 
   module _ {D : Split} {E : DivisionLaws D} (A : Side D E) where
-    abbrev lm : ℕ → List ℕ
-    lm k = leading (row (A .s .rows) k)
+    abbrev leader : ℕ → List ℕ
+    leader k = leading (row (A .s .rows) k)
 
-    abbrev In-rows : ℕ → Type 0
-    In-rows k = Within k (length (A .s .rows))
+    abbrev InRows : ℕ → Type 0
+    InRows k = Within k (length (A .s .rows))
 
-    wide-lm : (k : ℕ) → Wide (lm k)
-    wide-lm k = Soundness.row-wide (set D) (lawful E) (A .sound) k
+    wide-leader : (k : ℕ) → Wide (leader k)
+    wide-leader k = Soundness.row-wide (set D) (lawful E) (A .sound) k
 
     -- the first term of a row, and of its copy
     record First (k : ℕ) : Type 0 where
       tail : Poly
-      is : row (A .s .rows) k ≡ term 1 (lm k) ∷ tail
+      is : row (A .s .rows) k ≡ term 1 (leader k) ∷ tail
       good : Written F O N (row (A .s .rows) k)
 
-    first : (k : ℕ) → In-rows k → First k
+    first : (k : ℕ) → InRows k → First k
     first k w =
         let r = Soundness.row-at (set D) (lawful E) (A .sound) k w in
         let p = Soundness.first-term (set D) (lawful E) (row (A .s .rows) k) r in
@@ -115,57 +119,57 @@ module _ (S : Setting) (W : Lawful S) where
     rows-over : Ideals.Overs F N (A .s .rows)
     rows-over = Sheets.rows-over (set D) (lawful E) (A .sound)
 
-    row-member : (k : ℕ) → In-rows k → Member F N (A .s .rows) (row (A .s .rows) k)
+    row-member : (k : ℕ) → InRows k → Member F N (A .s .rows) (row (A .s .rows) k)
     row-member k w = Ideals.member-generator S W (A .s .rows) rows-over (row (A .s .rows) k) (Soundness.row-mem (set D) (lawful E) (A .s .rows) (k - 1) (omega arith))
 
-    in-rows : (k : ℕ) → List·Memᴰ k (A .ks) → In-rows k
+    in-rows : (k : ℕ) → List·Memᴰ k (A .ks) → InRows k
     in-rows k h = A .selection .minimal k .0 h .within
 
-    copy-is : (k : ℕ) {f : Poly} → In-rows k → (c : CopyOf (set D) (A .s) k f) → f ≡ term 1 (lm k) ∷ c .rest
+    copy-is : (k : ℕ) {f : Poly} → InRows k → (c : CopyOf (set D) (A .s) k f) → f ≡ term 1 (leader k) ∷ c .rest
     copy-is k w c = c .is ∙ ap (λ x. take 1 x ++ c .rest) (first k w .is)
 
     -- what is written, a member, and starts with a monomial, shows a row that divides it
     record Row (m : List ℕ) : Type 0 where
       k : ℕ
-      within : In-rows k
-      divides : Divides (lm k) m
+      within : InRows k
+      divides : Divides (leader k) m
 
     shown : (t : Term) (f : Poly) → Written F O N (t ∷ f) → Member F N (A .s .rows) (t ∷ f) → Row (exponents t)
     shown t f w h =
         let r = Sheets.lead-divisor (set D) (lawful E) (A .s) (A .sound) (A .closed) t f w h in
-        let v : In-rows (r .0) = rw (length-map (A .s .rows) leading) at (r .1 .within) in
+        let v : InRows (r .0) = rw (length-map (A .s .rows) leading) at (r .1 .within) in
         record { k = r .0; within = v; divides = subst (λ x. Divides x (exponents t)) (Soundness.lead-at (A .s .rows) (r .0 - 1) (omega arith)) (r .1 .divides) }
 
   abbrev Inside : {D D′ : Split} {E : DivisionLaws D} {E′ : DivisionLaws D′} → Side D E → Side D′ E′ → Type 0
   Inside A C = (f : Poly) → Over F N f → Member F N (A .s .rows) f → Member F N (C .s .rows) f
 
   module _ {D D′ : Split} {E : DivisionLaws D} {E′ : DivisionLaws D′} (A : Side D E) (C : Side D′ E′) (i : Inside A C) where
-    covers : (k : ℕ) → In-rows A k → Row C (lm A k)
-    covers k w = let r = first A k w in shown C (term 1 (lm A k)) (r .tail) (subst (Written F O N) (r .is) (r .good)) (subst (Member F N (C .s .rows)) (r .is) (i (row (A .s .rows) k) (r .good .over) (row-member A k w)))
+    covers : (k : ℕ) → InRows A k → Row C (leader A k)
+    covers k w = let r = first A k w in shown C (term 1 (leader A k)) (r .tail) (subst (Written F O N) (r .is) (r .good)) (subst (Member F N (C .s .rows)) (r .is) (i (row (A .s .rows) k) (r .good .over) (row-member A k w)))
 
   module _ {D D′ : Split} {E : DivisionLaws D} {E′ : DivisionLaws D′} (A : Side D E) (C : Side D′ E′) (i : Inside A C) (j : Inside C A) where
     -- a row of C that is as low as a minimal row of A
     record Twin (k : ℕ) : Type 0 where
       k′ : ℕ
       minimal : Minimal (set D′) (C .s) k′
-      same : lm A k ≡ lm C k′
+      same : leader A k ≡ leader C k′
 
     -- a row of C whose leading monomial divides that of a minimal row of A
-    equals : (k : ℕ) → Minimal (set D) (A .s) k → (n : ℕ) → In-rows C n → Divides (lm C n) (lm A k) → lm A k ≡ lm C n
+    equals : (k : ℕ) → Minimal (set D) (A .s) k → (n : ℕ) → InRows C n → Divides (leader C n) (leader A k) → leader A k ≡ leader C n
     equals k m n w d =
         let r = covers C A j n w in
-        let e : r .k ≡ k = m .undivided (r .k) (r .within) (divides-trans (lm A (r .k)) (lm C n) (lm A k) (r .divides) d) in
-        divides-both (lm A k) (lm C n) (wide-lm A k) (wide-lm C n) (subst (λ x. Divides (lm A x) (lm C n)) e (r .divides)) d
+        let e : r .k ≡ k = m .undivided (r .k) (r .within) (divides-trans (leader A (r .k)) (leader C n) (leader A k) (r .divides) d) in
+        divides-both (leader A k) (leader C n) (wide-leader A k) (wide-leader C n) (subst (λ x. Divides (leader A x) (leader C n)) e (r .divides)) d
 
     twin : (k : ℕ) → Minimal (set D) (A .s) k → Twin k
     twin k m =
         let r = covers A C i k (m .within) in
-        let e : lm A k ≡ lm C (r .k) = equals k m (r .k) (r .within) (r .divides) in
+        let e : leader A k ≡ leader C (r .k) = equals k m (r .k) (r .within) (r .divides) in
         record {
           k′ = r .k;
           minimal = record {
             within = r .within;
-            undivided = λ n w d. C .sound .once n (r .k) w (r .within) (sym (equals k m n w (subst (Divides (lm C n)) (sym e) d)) ∙ e);
+            undivided = λ n w d. C .sound .once n (r .k) w (r .within) (sym (equals k m n w (subst (Divides (leader C n)) (sym e) d)) ∙ e);
           };
           same = e;
         }
@@ -173,18 +177,18 @@ module _ (S : Setting) (W : Lawful S) where
     -- what is irreducible for one table is irreducible for the other
     irreducible : (g : Poly) → Written F O N g → Irreducible F O D′ N (C .s .rows) g → Irreducible F O D N (A .s .rows) g
     irreducible g w h t m k v =
-        let n : In-rows A k = rw (length-map (A .s .rows) leading) at (v .within) in
+        let n : InRows A k = rw (length-map (A .s .rows) leading) at (v .within) in
         let f = first A k n in
         let c : In N (exponents t) = w .over t m .1 in
-        let a : List ℕ = quotient (exponents t) (lm A k) in
-        let an : In N a = Monomials.in-quotient (lm A k) c (wide-lm A k) in
-        let l : Divides (lm A k) (exponents t) = subst (λ x. Divides x (exponents t)) (Soundness.lead-at (A .s .rows) (k - 1) (omega arith)) (v .divides) in
+        let a : List ℕ = quotient (exponents t) (leader A k) in
+        let an : In N a = Monomials.in-quotient (leader A k) c (wide-leader A k) in
+        let l : Divides (leader A k) (exponents t) = subst (λ x. Divides x (exponents t)) (Soundness.lead-at (A .s .rows) (k - 1) (omega arith)) (v .divides) in
         let p : Poly = scaled F 1 a (row (A .s .rows) k) in
         let pw : Written F O N p = Soundness.written-scaled (set D) (lawful E) 1 a (omega arith) (L .differ) an (row (A .s .rows) k) (f .good) in
         let pm : Member F N (A .s .rows) p = Ideals.member-scaled S W 1 a (L .differ) an (A .s .rows) (rows-over A) (row (A .s .rows) k) (f .good .over) (row-member A k n) in
-        let e : p ≡ scaled F 1 a (term 1 (lm A k) ∷ f .tail) = ap (scaled F 1 a) (f .is) in
-        let r = Sheets.lead-divisor (set D′) (lawful E′) (C .s) (C .sound) (C .closed) (term (F .mul 1 1) (times a (lm A k))) (scaled F 1 a (f .tail)) (subst (Written F O N) e pw) (subst (Member F N (C .s .rows)) e (i p (pw .over) pm)) in
-        let q : times a (lm A k) ≡ exponents t = Monomials.times-comm a (lm A k) ∙ Monomials.times-quotient (lm A k) (exponents t) (wide-lm A k ∙ sym (c .wide)) (λ x. let y : suc x - 1 ≡ x = omega arith in rw y at (l (suc x))) in
+        let e : p ≡ scaled F 1 a (term 1 (leader A k) ∷ f .tail) = ap (scaled F 1 a) (f .is) in
+        let r = Sheets.lead-divisor (set D′) (lawful E′) (C .s) (C .sound) (C .closed) (term (F .mul 1 1) (times a (leader A k))) (scaled F 1 a (f .tail)) (subst (Written F O N) e pw) (subst (Member F N (C .s .rows)) e (i p (pw .over) pm)) in
+        let q : times a (leader A k) ≡ exponents t = Monomials.times-comm a (leader A k) ∙ Monomials.times-quotient (leader A k) (exponents t) (wide-leader A k ∙ sym (c .wide)) (λ x. rw (low x) at (l (suc x))) in
         h t m (r .0) (subst (Involutive D′ (leaders (C .s .rows)) (r .0)) q (r .1))
 
     -- every copy of A is one of C
@@ -196,14 +200,14 @@ module _ (S : Setting) (W : Lawful S) where
         let c = copy-to (set D′) (C .s) (C .copied) (t .k′) (C .selection .minimal (t .k′) .1 (t .minimal)) in
         let x = Soundness.reduces-written (set D) (lawful E) (a .copy .reduced) (Soundness.tail-written (set D) (lawful E) (A .sound) (a .k)) (a .copy .rest) refl in
         let y = Soundness.reduces-written (set D′) (lawful E′) (c .copy .reduced) (Soundness.tail-written (set D′) (lawful E′) (C .sound) (t .k′)) (c .copy .rest) refl in
-        let e : f ≡ term 1 (lm A (a .k)) ∷ a .copy .rest = copy-is A (a .k) (m .within) (a .copy) in
-        let d : c .f ≡ term 1 (lm A (a .k)) ∷ c .copy .rest = copy-is C (t .k′) (t .minimal .within) (c .copy) ∙ ap (λ z. term 1 z ∷ c .copy .rest) (sym (t .same)) in
+        let e : f ≡ term 1 (leader A (a .k)) ∷ a .copy .rest = copy-is A (a .k) (m .within) (a .copy) in
+        let d : c .f ≡ term 1 (leader A (a .k)) ∷ c .copy .rest = copy-is C (t .k′) (t .minimal .within) (c .copy) ∙ ap (λ z. term 1 z ∷ c .copy .rest) (sym (t .same)) in
         let u = Sheets.fair (set D) (lawful E) (A .s) (A .sound) (a .k) (m .within) (a .copy) in
         let v = Sheets.fair (set D′) (lawful E′) (C .s) (C .sound) (t .k′) (t .minimal .within) (c .copy) in
-        let o : Over F N (term 1 (lm A (a .k)) ∷ a .copy .rest) = subst (Over F N) e (u .good .over) in
-        let n : Member F N (A .s .rows) (minus F (a .copy .rest) (c .copy .rest)) = Ideals.member-tails S W (term 1 (lm A (a .k))) (o _ (List·Memᴰ·head refl)) (A .s .rows) (rows-over A) (a .copy .rest) (x .0 .over) (c .copy .rest) (y .0 .over) (subst (Member F N (A .s .rows)) e (u .member)) (subst (Member F N (A .s .rows)) d (j (c .f) (v .good .over) (v .member))) in
+        let o : Over F N (term 1 (leader A (a .k)) ∷ a .copy .rest) = subst (Over F N) e (u .good .over) in
+        let n : Member F N (A .s .rows) (minus F (a .copy .rest) (c .copy .rest)) = Ideals.member-tails S W (term 1 (leader A (a .k))) (o _ (List·Memᴰ·head refl)) (A .s .rows) (rows-over A) (a .copy .rest) (x .0 .over) (c .copy .rest) (y .0 .over) (subst (Member F N (A .s .rows)) e (u .member)) (subst (Member F N (A .s .rows)) d (j (c .f) (v .good .over) (v .member))) in
         let g : a .copy .rest ≡ c .copy .rest = Sheets.one-remainder (set D) (lawful E) (A .s) (A .sound) (A .closed) (a .copy .rest) (c .copy .rest) (x .0) (y .0) (x .1) (irreducible (c .copy .rest) (y .0) (y .1)) n in
-        subst (λ z. List·Memᴰ z (C .fs)) (d ∙ ap (λ z. term 1 (lm A (a .k)) ∷ z) (sym g) ∙ sym e) (c .stands)
+        subst (λ z. List·Memᴰ z (C .fs)) (d ∙ ap (λ z. term 1 (leader A (a .k)) ∷ z) (sym g) ∙ sym e) (c .stands)
 
   -- the copies rise
   abbrev Lower : Poly → Poly → Type 0
@@ -213,16 +217,16 @@ module _ (S : Setting) (W : Lawful S) where
   lower-asym f g a b = asym (leading f) (leading g) (a .0) (a .1) (a .2) (b .2)
 
   module _ {D : Split} {E : DivisionLaws D} (A : Side D E) where
-    leads : (k : ℕ) {f : Poly} → In-rows A k → CopyOf (set D) (A .s) k f → leading f ≡ lm A k
+    leads : (k : ℕ) {f : Poly} → InRows A k → CopyOf (set D) (A .s) k f → leading f ≡ leader A k
     leads k w c = ap leading (copy-is A k w c)
 
-    rise : {ks : List ℕ} {fs : List Poly} → Lists.Up (λ j k. Under O (lm A j) (lm A k)) ks → Beside (set D) (A .s) ks fs → ((k : ℕ) → List·Memᴰ k ks → In-rows A k) → Lists.Up Lower fs
+    rise : {ks : List ℕ} {fs : List Poly} → Lists.Up (λ j k. Under O (leader A j) (leader A k)) ks → Beside (set D) (A .s) ks fs → ((k : ℕ) → List·Memᴰ k ks → InRows A k) → Lists.Up Lower fs
     rise Lists.up-nil no-more w = Lists.up-nil
     rise (Lists.up-cons u p) (one-more {k = k} {f = f} c b) w = Lists.up-cons
         (λ g h. let r = copy-from (set D) (A .s) b g h in
-        let x : leading f ≡ lm A k = leads k (w k (List·Memᴰ·head refl)) c in
-        let y : leading g ≡ lm A (r .k) = leads (r .k) (w (r .k) (List·Memᴰ·tail (r .stands))) (r .copy) in
-        (rw x (wide-lm A k), rw y (wide-lm A (r .k)), rw (x, y) (u (r .k) (r .stands))))
+        let x : leading f ≡ leader A k = leads k (w k (List·Memᴰ·head refl)) c in
+        let y : leading g ≡ leader A (r .k) = leads (r .k) (w (r .k) (List·Memᴰ·tail (r .stands))) (r .copy) in
+        (rw x (wide-leader A k), rw y (wide-leader A (r .k)), rw (x, y) (u (r .k) (r .stands))))
         (rise p b (λ k h. w k (List·Memᴰ·tail h)))
 
     rising : Lists.Up Lower (A .fs)

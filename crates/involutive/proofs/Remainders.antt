@@ -58,29 +58,29 @@ module _ (S : Setting) (W : Lawful S) where
     member : Member F N (s .rows) (minus F f r)
 
   remainder : {s : State} {f r : Poly} → Sound S s → Granted S s f r → Remainder s f r
-  remainder {s} {f} {r} so G =
+  remainder {s} {f} {r} I G =
       let x = granted G in
       let w = Soundness.no-fault S W f (x .0) .written in
       let v = Soundness.reduces-written S W (x .1) w r refl in
-      record { whole = w; rest = v .0; irreducible = v .1; member = Sheets.reduced-member S W so f r w (x .1) }
+      record { whole = w; rest = v .0; irreducible = v .1; member = Sheets.reduced-member S W I f r w (x .1) }
 
   module _ {calls : List Call} {s : State} {gs : List Poly} (a : After S calls s gs) (c : Closed S s) where
-    so : Sound S s
-    so = Soundness.sound S W a
+    sound : Sound S s
+    sound = Soundness.sound S W a
 
-    ro : Ideals.Overs F N (s .rows)
-    ro = Sheets.rows-over S W so
+    rows-over : Ideals.Overs F N (s .rows)
+    rows-over = Sheets.rows-over S W sound
 
     diff : (u v w : Poly) → Over F N u → Over F N v → Over F N w → Member F N (s .rows) (minus F u v) → Member F N (s .rows) (minus F v w) → Member F N (s .rows) (minus F u w)
-    diff u v w ou ov ow = Ideals.member-diff S W (s .rows) ro u ou v ov w ow
+    diff u v w ou ov ow = Ideals.member-diff S W (s .rows) rows-over u ou v ov w ow
 
     swap : (u v : Poly) → Over F N u → Over F N v → Member F N (s .rows) (minus F u v) → Member F N (s .rows) (minus F v u)
-    swap u v ou ov = Ideals.member-swap S W (s .rows) ro u ou v ov
+    swap u v ou ov = Ideals.member-swap S W (s .rows) rows-over u ou v ov
 
     -- where f − g is a member, the remainders are the same
     same-rests : (f g r t : Poly) → Remainder s f r → Remainder s g t → Member F N (s .rows) (minus F f g) → r ≡ t
     same-rests f g r t A C m =
-        Sheets.one-remainder S W s so c r t (A .rest) (C .rest) (A .irreducible) (C .irreducible)
+        Sheets.one-remainder S W s sound c r t (A .rest) (C .rest) (A .irreducible) (C .irreducible)
         (diff r f t (A .rest .over) (A .whole .over) (C .rest .over) (swap f r (A .whole .over) (A .rest .over) (A .member))
         (diff f g t (A .whole .over) (C .whole .over) (C .rest .over) m (C .member)))
 
@@ -96,28 +96,28 @@ module _ (S : Setting) (W : Lawful S) where
 
   pub decide : Remainders-decide S
   decide calls s gs a c f g r t G H =
-      let A = remainder (so a c) G in
-      let C = remainder (so a c) H in
+      let A = remainder (sound a c) G in
+      let C = remainder (sound a c) H in
       let same = KeptIdeal.keeps-ideal S W calls s gs a (minus F f g) (Ideals.over-plus S W f (negated F g) (A .whole .over) (Ideals.over-negated S W g (C .whole .over))) in
       (λ e. same .0 (same-class a c f g r t A C e), λ m. same-rests a c f g r t A C (same .1 m))
 
   pub multiply : Remainders-multiply S
   multiply calls s gs a c f g h p r t u w e d G₁ G₂ G₃ G₄ =
-      let A = remainder (so a c) G₁ in
-      let C = remainder (so a c) G₂ in
-      let X = remainder (so a c) G₃ in
-      let Y = remainder (so a c) G₄ in
+      let A = remainder (sound a c) G₁ in
+      let C = remainder (sound a c) G₂ in
+      let X = remainder (sound a c) G₃ in
+      let Y = remainder (sound a c) G₄ in
       same-rests a c h p u w X Y
       (equal-member a c h (product F f g) p (product F r t) (X .whole .over) (Ideals.over-product S W f (A .whole .over) g (C .whole .over)) (Y .whole .over) (Ideals.over-product S W r (A .rest .over) t (C .rest .over)) e d
-      (Ideals.member-products S W (s .rows) (ro a c) f (A .whole .over) g (C .whole .over) r (A .rest .over) t (C .rest .over) (A .member) (C .member)))
+      (Ideals.member-products S W (s .rows) (rows-over a c) f (A .whole .over) g (C .whole .over) r (A .rest .over) t (C .rest .over) (A .member) (C .member)))
 
   pub add : Remainders-add S
   add calls s gs a c f g h r t u e G₁ G₂ G₃ =
-      let A = remainder (so a c) G₁ in
-      let C = remainder (so a c) G₂ in
-      let X = remainder (so a c) G₃ in
+      let A = remainder (sound a c) G₁ in
+      let C = remainder (sound a c) G₂ in
+      let X = remainder (sound a c) G₃ in
       let o : Over F N (plus r t) = Ideals.over-plus S W r t (A .rest .over) (C .rest .over) in
-      Sheets.sum-remainder S W s (so a c) c u (X .rest .over) r (A .rest .over) t (C .rest .over) (X .irreducible) (A .irreducible) (C .irreducible)
+      Sheets.sum-remainder S W s (sound a c) c u (X .rest .over) r (A .rest .over) t (C .rest .over) (X .irreducible) (A .irreducible) (C .irreducible)
       (diff a c u h (plus r t) (X .rest .over) (X .whole .over) o (swap a c h u (X .whole .over) (X .rest .over) (X .member))
       (equal-member a c h (plus f g) (plus r t) (plus r t) (X .whole .over) (Ideals.over-plus S W f g (A .whole .over) (C .whole .over)) o o e (λ m. refl)
-      (Ideals.member-sums S W (s .rows) (ro a c) f (A .whole .over) g (C .whole .over) r (A .rest .over) t (C .rest .over) (A .member) (C .member))))
+      (Ideals.member-sums S W (s .rows) (rows-over a c) f (A .whole .over) g (C .whole .over) r (A .rest .over) t (C .rest .over) (A .member) (C .member))))

@@ -16,9 +16,8 @@ use Rattle.involutive.specs.Ideal.{Member}
 use Rattle.involutive.specs.Reduction.{row}
 use Rattle.involutive.specs.Sheet.{Setting, State, Closed, Lawful}
 use Rattle.involutive.specs.Answers.{Judges, verdict-answer, impossible, possible}
-use Rattle.monomial.proofs.Places.{beyond}
+use Rattle.monomial.proofs.Places.{agree-all, beyond, low}
 use Rattle.involutive.specs.Complete.{UnitRow}
-use Rattle.involutive.proofs.Lists
 use Rattle.involutive.proofs.Monomials
 use Rattle.involutive.proofs.Ideals
 use Rattle.involutive.proofs.Soundness
@@ -46,7 +45,7 @@ module _ (S : Setting) (W : Lawful S) where
   }
 
   divides-one : (m : List ℕ) → Wide m → Divides m one → m ≡ one
-  divides-one m w d = Lists.same-entries m one w (λ i. let e : suc i - 1 ≡ i = omega arith in let x : getD m i 0 ≤ getD one i 0 = rw e at (d (suc i)) in omega (arith, Monomials.zeros 6 i))
+  divides-one m w d = agree-all m one w (λ i l. let x : getD m i 0 ≤ getD one i 0 = rw (low i) at (d (suc i)) in omega (arith, Monomials.zeros 6 i))
 
   -- nothing stands below 1
   least : (m : List ℕ) → Wide m → Under O m one → ⊥
