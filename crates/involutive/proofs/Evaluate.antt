@@ -180,9 +180,9 @@ module _ (S : Setting) (s : State) where
   not-minimal? k = some? (λ j. within? j (length (s .rows)) >>= λ w. fails (eqb j k) >>= λ f. divides? (lead j) (lead k) >>= λ d. Some (λ m. eqb-false j k f (m .undivided j w d))) (length (s .rows))
 
   abbrev rising? : (ks : List ℕ) → Option (Rising S s ks)
-  rising? [] = Some Answers.nothing
-  rising? (k ∷ []) = Some Answers.last
-  rising? (j ∷ k ∷ ks) = under? (S .order) (lead j) (lead k) >>= λ l. rising? (k ∷ ks) >>= λ r. Some (Answers.next l r)
+  rising? [] = Some Answers.rising-none
+  rising? (k ∷ []) = Some Answers.rising-one
+  rising? (j ∷ k ∷ ks) = under? (S .order) (lead j) (lead k) >>= λ l. rising? (k ∷ ks) >>= λ r. Some (Answers.rising-more l r)
 
   abbrev listed? : (k : ℕ) (ks : List ℕ) → Option (List·Memᴰ k ks)
   listed? k [] = None

@@ -20,7 +20,7 @@ use Rattle.polynomial.specs.Polynomial.{Poly, Over, term, exponents, Written, F
 use Rattle.involutive.specs.Value.{scaled, leading}
 use Rattle.involutive.specs.Reduction.{Table, row, leaders, Outcome, left, Irreducible, multiple, Reduces, done, wide, long, acts}
 use Rattle.involutive.specs.Sheet.{Setting, State, empty, most-rows, with-row, prolonged, Lawful}
-use Rattle.involutive.specs.Answers.{first-fault, ReducesTo, Adds, Steps, Answer, Rising, next, last, nothing, add-faulty, add-stuck, add-zero, add-full, add-row, step-closed, step-wide, step-stuck, step-mark, step-full, step-row}
+use Rattle.involutive.specs.Answers.{first-fault, ReducesTo, Adds, Steps, Answer, Rising, rising-none, rising-one, rising-more, add-faulty, add-stuck, add-zero, add-full, add-row, step-closed, step-wide, step-stuck, step-mark, step-full, step-row}
 use Rattle.polynomial.specs.Check.{Fits, Acceptable, most-terms, largest-exponent}
 use Rattle.involutive.specs.Log.{Call, After, added, not-added, stepped, reduced, shown, copied, judged, made}
 use Rattle.polynomial.proofs.Checking.{acceptable-from}
@@ -241,9 +241,9 @@ module _ (S : Setting) (W : Lawful S) where
   under-asym u m a b h k = let z : Less ≡ Same = sym (W .order .transitive u m u a b a h k) ∙ W .order .equal u u a a .1 refl in let y : _≡_ {A = ℕ} 0 1 = cc in omega arith
 
   pub rising-up : {s : State} (I : Sound S s) {ks : List ℕ} → Rising S s ks → Lists.Up (λ j k. Under O (leading (row (s .rows) j)) (leading (row (s .rows) k))) ks
-  rising-up I nothing = Lists.up-nil
-  rising-up I last = Lists.up-cons (λ b h. elim h [ ]) Lists.up-nil
-  rising-up {s} I (next {j = j} {k = k} h r) = go (rising-up I r)
+  rising-up I rising-none = Lists.up-nil
+  rising-up I rising-one = Lists.up-cons (λ b h. elim h [ ]) Lists.up-nil
+  rising-up {s} I (rising-more {j = j} {k = k} h r) = go (rising-up I r)
     where
       go : {ks : List ℕ} → Lists.Up (λ j k. Under O (leading (row (s .rows) j)) (leading (row (s .rows) k))) (k ∷ ks) →
           Lists.Up (λ j k. Under O (leading (row (s .rows) j)) (leading (row (s .rows) k))) (j ∷ k ∷ ks)

@@ -149,6 +149,7 @@ module _ (S : Setting) (W : Lawful S) where
     row-eq : {j k : R} → j .0 ≡ k .0 → j ≡ k
     row-eq e = Σ-prop-path (λ k. ×-prop le-prop le-prop) e
 
+    -- involutive multiples of one height are of one row: the law that no monomial has two involutive divisors
     pub unique : (j k : R) (a b : Mono N) → Mul j a → Mul k b → Monomials.mul a (lead (nth T (j .0))) ≡ Monomials.mul b (lead (nth T (k .0))) → j ≡ k
     unique j k a b m n e = row-eq (E .no-two U distinct (Monomials.mul a (lead (nth T (j .0))) .0) (Monomials.mul a (lead (nth T (j .0))) .1 .wide) (j .0) (k .0) (involutive j a m) (subst (λ x. Involutive D U (k .0) (x .0)) (sym e) (involutive k b n)))
 

@@ -91,9 +91,9 @@ module _ (S : Setting) (s : State) where
 
   -- row numbers in rising order of the rows' leading monomials
   pub data Rising : List ℕ → Type 0 where
-    nothing : Rising []
-    last : {k : ℕ} → Rising (k ∷ [])
-    next : {j k : ℕ} {ks : List ℕ} → Under (S .order) (leading (row (s .rows) j)) (leading (row (s .rows) k)) → Rising (k ∷ ks) → Rising (j ∷ k ∷ ks)
+    rising-none : Rising []
+    rising-one : {k : ℕ} → Rising (k ∷ [])
+    rising-more : {j k : ℕ} {ks : List ℕ} → Under (S .order) (leading (row (s .rows) j)) (leading (row (s .rows) k)) → Rising (k ∷ ks) → Rising (j ∷ k ∷ ks)
 
   -- the rows to copy, each once
   pub record Selection (ks : List ℕ) : Type 0 where
