@@ -25,11 +25,14 @@ use Rattle.involutive.proofs.Sums
 use Rattle.involutive.proofs.Monomials
 use Rattle.involutive.proofs.Monomials.{Mono}
 use Rattle.involutive.proofs.Typing
-use Rattle.involutive.proofs.Typing.{Code, base, Beneath}
+use Rattle.involutive.proofs.Typing.{Ground, ground-of, Code, base, Beneath}
 use Rattle.involutive.proofs.Tables
 use Rattle.involutive.proofs.Tables.{Monic, Good}
 
 module _ (S : Setting) (W : Lawful S) where
+  abbrev ground : Ground
+  ground = ground-of S W
+
   abbrev F : FieldMeaning
   F = S .field
 
@@ -49,13 +52,13 @@ module _ (S : Setting) (W : Lawful S) where
   B = base (W .field) N
 
   abbrev Typed : Type 0
-  Typed = Typing.Typed S W
+  Typed = Typing.Typed ground
 
   abbrev raw : Typed → Poly
-  raw = Typing.raw S W
+  raw = Typing.raw ground
 
   abbrev lead : Typed → Mono N
-  lead = Typing.lead S W
+  lead = Typing.lead ground
 
   abbrev Sorted : Typed → Type 0
   Sorted = Algebra.Sorted B (Beneath N O)
@@ -146,7 +149,7 @@ module _ (S : Setting) (W : Lawful S) where
 
       -- irreducible polynomials that differ by a member of the ideal are the same
       pub one-remainder : (p q : Typed) → Sorted p → Sorted q → Irreducible F O D N (map raw T) (raw p) → Irreducible F O D N (map raw T) (raw q) → Span B T (Algebra._⊕_ B (Algebra.at B p) (Algebra.⊖ B (Algebra.at B q))) → p ≡ q
-      one-remainder p q s t i j h = Algebra.sorted-eq B (Beneath N O) (Typing.line S W) s t
+      one-remainder p q s t i j h = Algebra.sorted-eq B (Beneath N O) (Typing.line ground) s t
           (Algebra.minus-zero B (Algebra.at B p) (Algebra.at B q) (Sums.irreducible-zero B chart (span-sum h) (λ k a m. Algebra.minus-off B (Algebra.at B p) (Algebra.at B q) _ (absent p i k a m) (absent q j k a m))))
 
       -- and so is one that differs so from the sum of two
@@ -159,8 +162,8 @@ module _ (S : Setting) (W : Lawful S) where
       lead-divisor t p s h =
           let q = Tables.sorted-parts S W s in
           let r = Sums.led B chart (span-sum h) (t .1)
-          (λ z. q .2 (sym (Algebra.at-top B (Beneath N O) (Typing.line S W) t p (q .0)) ∙ z))
-          (λ u l. Algebra.at-below B (Beneath N O) (Typing.line S W) (Algebra.more-below l (Algebra.below-up B (Beneath N O) (Typing.line S W) l (q .0)))) in
+          (λ z. q .2 (sym (Algebra.at-top B (Beneath N O) (Typing.line ground) t p (q .0)) ∙ z))
+          (λ u l. Algebra.at-below B (Beneath N O) (Typing.line ground) (Algebra.more-below l (Algebra.below-up B (Beneath N O) (Typing.line ground) l (q .0)))) in
           (r .k .0, subst (λ x. Involutive D U (r .k .0) (x .0)) (r .height) (Tables.involutive S W T G (r .k) (r .a) (r .mul)))
 
       -- copies of the rows whose leading monomials are minimal
@@ -201,7 +204,7 @@ module _ (S : Setting) (W : Lawful S) where
           one-up a j = ap (Algebra.shift B (B .𝟙) a (Algebra.at B (nth T (j .0)))) (Monomials.mul-comm (leader j) a) ∙ Sums.term-at B chart (B .𝟙) a j
 
           member : (k : R) → List·Memᴰ (nth T (k .0)) T
-          member k = Typing.row-member S W T (k .0 - 1) (omega arith)
+          member k = Typing.row-member ground T (k .0 - 1) (omega arith)
 
           start : (k : R) → ((j : R) → Beneath N O (leader j) (leader k) → Span B P (Algebra.at B (nth T (j .0)))) → Sums.Start B chart (Span B P) k
           start k ih = go (look k (length T) (omega arith))

@@ -23,6 +23,7 @@ use Rattle.involutive.specs.Complete.{GrantedCopy, under-division, Copies-deci
 use Rattle.monomial.proofs.Places.{agree-all, low}
 use Rattle.involutive.proofs.Lists
 use Rattle.involutive.proofs.Monomials
+use Rattle.involutive.proofs.Typing.{Ground, ground-of}
 use Rattle.involutive.proofs.Ideals
 use Rattle.involutive.proofs.Bytes
 use Rattle.involutive.proofs.Copying.{CopyOf, Beside, no-more, one-more, beside, copy-from, copy-to}
@@ -60,6 +61,9 @@ granted S s b G = go (G .grant) refl (G .front)
         record { ks = ks; fs = fs; selection = z; copied = m; bytes = sym d ∙ ap (λ i. take i (front (copy-bytes fs) (G .out))) (sym n) ∙ take-append-seam (copy-bytes fs) (drop (length (copy-bytes fs)) (G .out)) }
 
 module _ (S : Setting) (W : Lawful S) where
+  abbrev ground : Ground
+  ground = ground-of S W
+
   abbrev F : FieldMeaning
   F = S .field
 
@@ -120,7 +124,7 @@ module _ (S : Setting) (W : Lawful S) where
     rows-over = Sheets.rows-over (set D) (lawful E) (A .sound)
 
     row-member : (k : ℕ) → InRows k → Member F N (A .s .rows) (row (A .s .rows) k)
-    row-member k w = Ideals.member-generator S W (A .s .rows) rows-over (row (A .s .rows) k) (Soundness.row-mem (set D) (lawful E) (A .s .rows) (k - 1) (omega arith))
+    row-member k w = Ideals.member-generator ground (A .s .rows) rows-over (row (A .s .rows) k) (Soundness.row-mem (set D) (lawful E) (A .s .rows) (k - 1) (omega arith))
 
     in-rows : (k : ℕ) → List·Memᴰ k (A .ks) → InRows k
     in-rows k h = A .selection .minimal k .0 h .within
@@ -185,7 +189,7 @@ module _ (S : Setting) (W : Lawful S) where
         let l : Divides (leader A k) (exponents t) = subst (λ x. Divides x (exponents t)) (Soundness.lead-at (A .s .rows) (k - 1) (omega arith)) (v .divides) in
         let p : Poly = scaled F 1 a (row (A .s .rows) k) in
         let pw : Written F O N p = Soundness.written-scaled (set D) (lawful E) 1 a (omega arith) (L .differ) an (row (A .s .rows) k) (f .good) in
-        let pm : Member F N (A .s .rows) p = Ideals.member-scaled S W 1 a (L .differ) an (A .s .rows) (rows-over A) (row (A .s .rows) k) (f .good .over) (row-member A k n) in
+        let pm : Member F N (A .s .rows) p = Ideals.member-scaled ground 1 a (L .differ) an (A .s .rows) (rows-over A) (row (A .s .rows) k) (f .good .over) (row-member A k n) in
         let e : p ≡ scaled F 1 a (term 1 (leader A k) ∷ f .tail) = ap (scaled F 1 a) (f .is) in
         let r = Sheets.lead-divisor (set D′) (lawful E′) (C .s) (C .sound) (C .closed) (term (F .mul 1 1) (times a (leader A k))) (scaled F 1 a (f .tail)) (subst (Written F O N) e pw) (subst (Member F N (C .s .rows)) e (i p (pw .over) pm)) in
         let q : times a (leader A k) ≡ exponents t = Monomials.times-comm a (leader A k) ∙ Monomials.times-quotient (leader A k) (exponents t) (wide-leader A k ∙ sym (c .wide)) (λ x. rw (low x) at (l (suc x))) in
@@ -205,7 +209,7 @@ module _ (S : Setting) (W : Lawful S) where
         let u = Sheets.fair (set D) (lawful E) (A .s) (A .sound) (a .k) (m .within) (a .copy) in
         let v = Sheets.fair (set D′) (lawful E′) (C .s) (C .sound) (t .k′) (t .minimal .within) (c .copy) in
         let o : Over F N (term 1 (leader A (a .k)) ∷ a .copy .rest) = subst (Over F N) e (u .good .over) in
-        let n : Member F N (A .s .rows) (minus F (a .copy .rest) (c .copy .rest)) = Ideals.member-tails S W (term 1 (leader A (a .k))) (o _ (List·Memᴰ·head refl)) (A .s .rows) (rows-over A) (a .copy .rest) (x .0 .over) (c .copy .rest) (y .0 .over) (subst (Member F N (A .s .rows)) e (u .member)) (subst (Member F N (A .s .rows)) d (j (c .f) (v .good .over) (v .member))) in
+        let n : Member F N (A .s .rows) (minus F (a .copy .rest) (c .copy .rest)) = Ideals.member-tails ground (term 1 (leader A (a .k))) (o _ (List·Memᴰ·head refl)) (A .s .rows) (rows-over A) (a .copy .rest) (x .0 .over) (c .copy .rest) (y .0 .over) (subst (Member F N (A .s .rows)) e (u .member)) (subst (Member F N (A .s .rows)) d (j (c .f) (v .good .over) (v .member))) in
         let g : a .copy .rest ≡ c .copy .rest = Sheets.one-remainder (set D) (lawful E) (A .s) (A .sound) (A .closed) (a .copy .rest) (c .copy .rest) (x .0) (y .0) (x .1) (irreducible (c .copy .rest) (y .0) (y .1)) n in
         subst (λ z. List·Memᴰ z (C .fs)) (d ∙ ap (λ z. term 1 (leader A (a .k)) ∷ z) (sym g) ∙ sym e) (c .stands)
 
@@ -250,7 +254,7 @@ module _ (S : Setting) (W : Lawful S) where
 
     side-copies : SameIdeal F N (side .fs) gs
     unfolding side
-    side-copies = let H = granted (set D) s b G in Ideals.chain S W (Ideals.turned S W (Sheets.copies-ideal (set D) (lawful E) s (Soundness.sound (set D) (lawful E) a) c (H .ks) (H .fs) (H .selection) (H .copied))) side-rows
+    side-copies = let H = granted (set D) s b G in Ideals.chain ground (Ideals.turned ground (Sheets.copies-ideal (set D) (lawful E) s (Soundness.sound (set D) (lawful E) a) c (H .ks) (H .fs) (H .selection) (H .copied))) side-rows
 
     side-bytes : b ≡ copy-bytes (side .fs)
     unfolding side
@@ -265,8 +269,8 @@ module _ (S : Setting) (W : Lawful S) where
       let q : b′ ≡ copy-bytes (C .fs) = side-bytes E a′ c′ G′ in (
         λ e.
             let d : A .fs ≡ C .fs = Bytes.same-copies (A .fs) (C .fs) (wides A) (wides C) (sym p ∙ e ∙ q) in
-            Ideals.chain S W (Ideals.turned S W (side-copies (W .division) a c G)) (subst (λ fs. SameIdeal F N fs hs) (sym d) (side-copies E a′ c′ G′)),
+            Ideals.chain ground (Ideals.turned ground (side-copies (W .division) a c G)) (subst (λ fs. SameIdeal F N fs hs) (sym d) (side-copies E a′ c′ G′)),
         λ h.
-            let i : SameIdeal F N (s .rows) (s′ .rows) = Ideals.chain S W (side-rows (W .division) a c G) (Ideals.chain S W h (Ideals.turned S W (side-rows E a′ c′ G′))) in
+            let i : SameIdeal F N (s .rows) (s′ .rows) = Ideals.chain ground (side-rows (W .division) a c G) (Ideals.chain ground h (Ideals.turned ground (side-rows E a′ c′ G′))) in
             p ∙ ap copy-bytes (same-copies A C (λ f o m. i f o .0 m) (λ f o m. i f o .1 m)) ∙ sym q,
       )

@@ -18,12 +18,16 @@ use Rattle.involutive.specs.Log.{Call, After, made, added, not-added, stepped,
 use Rattle.involutive.specs.Sound.{Sound}
 use Rattle.involutive.specs.Complete.{Keeps-ideal}
 use Rattle.involutive.proofs.Monomials
+use Rattle.involutive.proofs.Typing.{Ground, ground-of}
 use Rattle.involutive.proofs.Ideals
 use Rattle.involutive.proofs.Ideals.{Overs}
 use Rattle.involutive.proofs.Soundness
 use Rattle.involutive.proofs.Sheets
 
 module _ (S : Setting) (W : Lawful S) where
+  abbrev ground : Ground
+  ground = ground-of S W
+
   abbrev F : FieldMeaning
   F = S .field
 
@@ -62,9 +66,9 @@ module _ (S : Setting) (W : Lawful S) where
       let p : 0 < t .coefficient = w .nonzero t (List·Memᴰ·head refl) in
       let b : F .inv (t .coefficient) < F .q = L .inv-below (t .coefficient) p h in
       record {
-        over = Ideals.over-scaled S W (F .inv (t .coefficient)) one b Monomials.in-one (t ∷ g) (w .over);
-        there = λ gs o m. Ideals.member-scaled S W (F .inv (t .coefficient)) one b Monomials.in-one gs o (t ∷ g) (w .over) m;
-        back = λ gs o m. Ideals.member-unscaled S W (t .coefficient) p h gs o (t ∷ g) (w .over) m;
+        over = Ideals.over-scaled ground (F .inv (t .coefficient)) one b Monomials.in-one (t ∷ g) (w .over);
+        there = λ gs o m. Ideals.member-scaled ground (F .inv (t .coefficient)) one b Monomials.in-one gs o (t ∷ g) (w .over) m;
+        back = λ gs o m. Ideals.member-unscaled ground (t .coefficient) p h gs o (t ∷ g) (w .over) m;
       }
 
   -- g stands for f, from which it differs by what the rows generate
@@ -72,31 +76,31 @@ module _ (S : Setting) (W : Lawful S) where
   exchanged R o f g p q m n d =
       let fs : List Poly = R ++ (f ∷ []) in
       let ds : List Poly = R ++ (n ∷ []) in
-      let fo : Overs F N fs = Ideals.over-append S W R (f ∷ []) o (alone f p) in
-      let dv : Overs F N ds = Ideals.over-append S W R (n ∷ []) o (alone n (d .over)) in
-      let mo : Over F N (minus F f g) = Ideals.over-plus S W f (negated F g) p (Ideals.over-negated S W g q) in
-      Ideals.same-ideal S W ds dv fs fo
-      (λ h k. ⊎-elim (λ i. Ideals.member-generator S W fs fo h (Memᴰ·append-left (f ∷ []) i))
-      (λ i. only n (d .there fs fo (Ideals.member-back S W fs fo f p g q (Ideals.member-wider S W R o (f ∷ []) (alone f p) _ mo m) (Ideals.member-generator S W fs fo f (last R f)))) h i) (List·Memᴰ·append-cases R k))
-      (λ h k. ⊎-elim (λ i. Ideals.member-generator S W ds dv h (Memᴰ·append-left (n ∷ []) i))
-      (λ i. only f (Ideals.member-from S W ds dv f p g q (Ideals.member-wider S W R o (n ∷ []) (alone n (d .over)) _ mo m) (d .back ds dv (Ideals.member-generator S W ds dv n (last R n)))) h i) (List·Memᴰ·append-cases R k))
+      let fo : Overs F N fs = Ideals.over-append ground R (f ∷ []) o (alone f p) in
+      let dv : Overs F N ds = Ideals.over-append ground R (n ∷ []) o (alone n (d .over)) in
+      let mo : Over F N (minus F f g) = Ideals.over-plus ground f (negated F g) p (Ideals.over-negated ground g q) in
+      Ideals.same-ideal ground ds dv fs fo
+      (λ h k. ⊎-elim (λ i. Ideals.member-generator ground fs fo h (Memᴰ·append-left (f ∷ []) i))
+      (λ i. only n (d .there fs fo (Ideals.member-back ground fs fo f p g q (Ideals.member-wider ground R o (f ∷ []) (alone f p) _ mo m) (Ideals.member-generator ground fs fo f (last R f)))) h i) (List·Memᴰ·append-cases R k))
+      (λ h k. ⊎-elim (λ i. Ideals.member-generator ground ds dv h (Memᴰ·append-left (n ∷ []) i))
+      (λ i. only f (Ideals.member-from ground ds dv f p g q (Ideals.member-wider ground R o (n ∷ []) (alone n (d .over)) _ mo m) (d .back ds dv (Ideals.member-generator ground ds dv n (last R n)))) h i) (List·Memᴰ·append-cases R k))
 
   adds : {s s′ : State} {gs : List Poly} {f : Poly} {n : ℕ} → Keeps s gs → Sound S s → Adds S s f (rows-now n) s′ → Keeps s′ (gs ++ (f ∷ []))
   adds {s} {gs = gs} {f = f} I so (add-zero e r) =
       let w = Soundness.no-fault S W f e .written in
       let o = Sheets.rows-over S W so in
-      let m : Member F N (s .rows) f = Ideals.member-from S W (s .rows) o f (w .over) [] (λ t h. elim h [ ]) (Sheets.reduced-member S W so f [] w r) (Ideals.member-zero S W (s .rows) o) in
+      let m : Member F N (s .rows) f = Ideals.member-from ground (s .rows) o f (w .over) [] (λ t h. elim h [ ]) (Sheets.reduced-member S W so f [] w r) (Ideals.member-zero ground (s .rows) o) in
       record {
-        over = Ideals.over-append S W gs (f ∷ []) (I .over) (alone f (w .over));
-        same = Ideals.chain S W (I .same) (Ideals.same-append S W gs (I .over) (f ∷ []) (alone f (w .over)) (only f (I .same f (w .over) .0 m)));
+        over = Ideals.over-append ground gs (f ∷ []) (I .over) (alone f (w .over));
+        same = Ideals.chain ground (I .same) (Ideals.same-append ground gs (I .over) (f ∷ []) (alone f (w .over)) (only f (I .same f (w .over) .0 m)));
       }
   adds {s} {gs = gs} {f = f} I so (add-row {t = t} {g = g} e r l) =
       let w = Soundness.no-fault S W f e .written in
       let v = Soundness.reduces-written S W r w (t ∷ g) refl .0 in
       let o = Sheets.rows-over S W so in
       record {
-        over = Ideals.over-append S W gs (f ∷ []) (I .over) (alone f (w .over));
-        same = Ideals.chain S W (exchanged (s .rows) o f (t ∷ g) (w .over) (v .over) (Sheets.reduced-member S W so f (t ∷ g) w r) (scaled F (F .inv (t .coefficient)) one (t ∷ g)) (divided v)) (Ideals.same-more S W (s .rows) o gs (I .over) (f ∷ []) (alone f (w .over)) (I .same));
+        over = Ideals.over-append ground gs (f ∷ []) (I .over) (alone f (w .over));
+        same = Ideals.chain ground (exchanged (s .rows) o f (t ∷ g) (w .over) (v .over) (Sheets.reduced-member S W so f (t ∷ g) w r) (scaled F (F .inv (t .coefficient)) one (t ∷ g)) (divided v)) (Ideals.same-more ground (s .rows) o gs (I .over) (f ∷ []) (alone f (w .over)) (I .same));
       }
 
   steps : {s s′ : State} {gs : List Poly} {a : Answer} → Keeps s gs → Sound S s → Steps S s a s′ → Keeps s′ gs
@@ -111,10 +115,10 @@ module _ (S : Setting) (W : Lawful S) where
       let o = Sheets.rows-over S W so in
       let d = divided u in
       let n : Poly = scaled F (F .inv (t .coefficient)) one (t ∷ g) in
-      let p : Member F N (s .rows) (prolonged S s k v) = Ideals.member-scaled S W 1 (variable v) (L .differ) (Monomials.in-variable (c .pair .at-variable)) (s .rows) o (row (s .rows) k) (Soundness.row-written S W so k .over)
-      (Ideals.member-generator S W (s .rows) o (row (s .rows) k) (Soundness.row-mem S W (s .rows) (k - 1) (omega (arith, c .pair .at-row .0, c .pair .at-row .1)))) in
-      let m : Member F N (s .rows) n = d .there (s .rows) o (Ideals.member-back S W (s .rows) o (prolonged S s k v) (w .over) (t ∷ g) (u .over) (Sheets.reduced-member S W so (prolonged S s k v) (t ∷ g) w r) p) in
-      record { over = I .over; same = Ideals.chain S W (Ideals.turned S W (Ideals.same-append S W (s .rows) o (n ∷ []) (alone n (d .over)) (only n m))) (I .same) }
+      let p : Member F N (s .rows) (prolonged S s k v) = Ideals.member-scaled ground 1 (variable v) (L .differ) (Monomials.in-variable (c .pair .at-variable)) (s .rows) o (row (s .rows) k) (Soundness.row-written S W so k .over)
+      (Ideals.member-generator ground (s .rows) o (row (s .rows) k) (Soundness.row-mem S W (s .rows) (k - 1) (omega (arith, c .pair .at-row .0, c .pair .at-row .1)))) in
+      let m : Member F N (s .rows) n = d .there (s .rows) o (Ideals.member-back ground (s .rows) o (prolonged S s k v) (w .over) (t ∷ g) (u .over) (Sheets.reduced-member S W so (prolonged S s k v) (t ∷ g) w r) p) in
+      record { over = I .over; same = Ideals.chain ground (Ideals.turned ground (Ideals.same-append ground (s .rows) o (n ∷ []) (alone n (d .over)) (only n m))) (I .same) }
 
   not-adds : {s s′ : State} {gs : List Poly} {f : Poly} {r : Refusal} → Keeps s gs → Adds S s f (denied r) s′ → Keeps s′ gs
   not-adds I (add-faulty e) = I

@@ -5,45 +5,47 @@ use mathlib.Core.Logic.{⊎-elim, _↔_}
 use Prim.Native.Nat.{ℕ, suc}
 use native.Mathlib.Omega.{arith}
 use lib.ListN.{length}
-use Rattle.field.specs.Field.{FieldMeaning}
+use Rattle.field.specs.Field.{FieldMeaning, FieldLaws}
 use Rattle.polynomial.specs.Polynomial.{Poly, Over}
-use Rattle.involutive.specs.Sheet.{Setting, Lawful}
 use Rattle.involutive.specs.Ideal.{combination, Member, SameIdeal}
 use Rattle.involutive.proofs.Algebra
 use Rattle.involutive.proofs.Algebra.{Base, Span}
 use Rattle.involutive.proofs.Monomials.{Mono}
 use Rattle.involutive.proofs.Typing
-use Rattle.involutive.proofs.Typing.{Code, base}
+use Rattle.involutive.proofs.Typing.{Ground, Code, base}
 
-module _ (S : Setting) (W : Lawful S) where
+module _ (ground : Ground) where
   abbrev F : FieldMeaning
-  F = S .field
+  F = ground .field
+
+  abbrev L : FieldLaws F
+  L = ground .laws
 
   abbrev N : ℕ
-  N = S .variables
+  N = ground .variables
 
   abbrev B : Base
-  B = base (W .field) N
+  B = base L N
 
   abbrev Typed : Type 0
-  Typed = Typing.Typed S W
+  Typed = Typing.Typed ground
 
   abbrev raw : Typed → Poly
-  raw = Typing.raw S W
+  raw = Typing.raw ground
 
   abbrev total : List Typed → List Typed → Algebra.V B
   total [] gs = Algebra.𝟎 B
   total (a ∷ more) [] = Algebra.𝟎 B
   total (a ∷ more) (g ∷ gs) = Algebra._⊕_ B (Algebra.act B a (Algebra.at B g)) (total more gs)
 
-  -- a combination of Typing.typed S W polynomials by Typing.typed S W multipliers
+  -- a combination of Typing.typed ground polynomials by Typing.typed ground multipliers
   combined : (xs gs : List Typed) → (c : Typed) × (raw c ≡ combination F (map raw xs) (map raw gs)) × (Algebra.at B c ≡ total xs gs)
   unfolding Algebra.at
   combined [] gs = ([], refl, refl)
   combined (a ∷ more) [] = ([], refl, refl)
   combined (a ∷ more) (g ∷ gs) =
       let r = combined more gs in
-      (Algebra.product B a g ++ r .0, cc (Typing.raw-++ S W (Algebra.product B a g) (r .0), Typing.raw-product S W a g, r .1), cc (Algebra.at-++ B (Algebra.product B a g) (r .0), Algebra.at-product B a g, r .2))
+      (Algebra.product B a g ++ r .0, cc (Typing.raw-++ ground (Algebra.product B a g) (r .0), Typing.raw-product ground a g, r .1), cc (Algebra.at-++ B (Algebra.product B a g) (r .0), Algebra.at-product B a g, r .2))
 
   total-span : (xs gs : List Typed) → Span B gs (total xs gs)
   total-span [] gs = Algebra.none refl
@@ -52,9 +54,9 @@ module _ (S : Setting) (W : Lawful S) where
 
   pub member-span : (gs : List Typed) (f : Typed) → Member F N (map raw gs) (raw f) → Span B gs (Algebra.at B f)
   member-span gs f m =
-      let xs = Typing.typeds S W (m .multipliers) (m .over) in
+      let xs = Typing.typeds ground (m .multipliers) (m .over) in
       let c = combined (xs .0) gs in
-      let e : Algebra.at B f ≡ Algebra.at B (c .0) = Typing.from-equal S W f (c .0) (rw (c .1, xs .1) (m .sum)) in
+      let e : Algebra.at B f ≡ Algebra.at B (c .0) = Typing.from-equal ground f (c .0) (rw (c .1, xs .1) (m .sum)) in
       subst (Span B gs) (sym (e ∙ c .2)) (total-span (xs .0) gs)
 
   record Factors (gs : List Typed) (v : Algebra.V B) : Type 0 where
@@ -95,7 +97,7 @@ module _ (S : Setting) (W : Lawful S) where
 
   raws-over : (xs : List Typed) (f : Poly) → List·Memᴰ f (map raw xs) → Over F N f
   raws-over [] f h = elim h [ ]
-  raws-over (x ∷ xs) f h = ⊎-elim (λ e. subst (Over F N) (sym e) (Typing.raw-over S W x)) (λ k. raws-over xs f k) (List·Memᴰ·cases-cons h)
+  raws-over (x ∷ xs) f h = ⊎-elim (λ e. subst (Over F N) (sym e) (Typing.raw-over ground x)) (λ k. raws-over xs f k) (List·Memᴰ·cases-cons h)
 
   pub span-member : (gs : List Typed) (f : Typed) → Span B gs (Algebra.at B f) → Member F N (map raw gs) (raw f)
   span-member gs f p =
@@ -105,11 +107,11 @@ module _ (S : Setting) (W : Lawful S) where
         multipliers = map raw (r .list);
         each = length-raws (r .list) gs (r .each);
         over = raws-over (r .list);
-        sum = rw (← (c .1)) (Typing.to-equal S W f (c .0) (r .value ∙ sym (c .2)));
+        sum = rw (← (c .1)) (Typing.to-equal ground f (c .0) (r .value ∙ sym (c .2)));
       }
 
   pub same-ideal : (gs hs : List Typed) → ((g : Typed) → List·Memᴰ g gs → Span B hs (Algebra.at B g)) → ((h : Typed) → List·Memᴰ h hs → Span B gs (Algebra.at B h)) → SameIdeal F N (map raw gs) (map raw hs)
   same-ideal gs hs p q f o =
-      let t = Typing.typed S W f o in
+      let t = Typing.typed ground f o in
       subst (λ x. Member F N (map raw gs) x ↔ Member F N (map raw hs) x) (t .1)
       (λ m. span-member hs (t .0) (Algebra.span-trans B p (member-span gs (t .0) m)), λ m. span-member gs (t .0) (Algebra.span-trans B q (member-span hs (t .0) m)))

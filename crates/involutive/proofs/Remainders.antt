@@ -21,10 +21,14 @@ use Rattle.involutive.proofs.KeptIdeal
 use Rattle.involutive.specs.Sound.{Sound}
 use Rattle.involutive.specs.Log.{Call, After}
 use Rattle.involutive.proofs.Soundness
+use Rattle.involutive.proofs.Typing.{Ground, ground-of}
 use Rattle.involutive.proofs.Ideals
 use Rattle.involutive.proofs.Sheets
 
 module _ (S : Setting) (W : Lawful S) where
+  abbrev ground : Ground
+  ground = ground-of S W
+
   abbrev F : FieldMeaning
   F = S .field
 
@@ -72,10 +76,10 @@ module _ (S : Setting) (W : Lawful S) where
     rows-over = Sheets.rows-over S W sound
 
     diff : (u v w : Poly) → Over F N u → Over F N v → Over F N w → Member F N (s .rows) (minus F u v) → Member F N (s .rows) (minus F v w) → Member F N (s .rows) (minus F u w)
-    diff u v w ou ov ow = Ideals.member-diff S W (s .rows) rows-over u ou v ov w ow
+    diff u v w ou ov ow = Ideals.member-diff ground (s .rows) rows-over u ou v ov w ow
 
     swap : (u v : Poly) → Over F N u → Over F N v → Member F N (s .rows) (minus F u v) → Member F N (s .rows) (minus F v u)
-    swap u v ou ov = Ideals.member-swap S W (s .rows) rows-over u ou v ov
+    swap u v ou ov = Ideals.member-swap ground (s .rows) rows-over u ou v ov
 
     -- where f − g is a member, the remainders are the same
     same-rests : (f g r t : Poly) → Remainder s f r → Remainder s g t → Member F N (s .rows) (minus F f g) → r ≡ t
@@ -92,13 +96,13 @@ module _ (S : Setting) (W : Lawful S) where
 
     -- differences of polynomials that stand for the same
     equal-member : (u v w x : Poly) → Over F N u → Over F N v → Over F N w → Over F N x → Equal F u v → Equal F w x → Member F N (s .rows) (minus F v x) → Member F N (s .rows) (minus F u w)
-    equal-member u v w x ou ov ow ox e d = Ideals.member-equal S W (Ideals.equal-minus S W u ou v ov w ow x ox e d)
+    equal-member u v w x ou ov ow ox e d = Ideals.member-equal ground (Ideals.equal-minus ground u ou v ov w ow x ox e d)
 
   pub decide : Remainders-decide S
   decide calls s gs a c f g r t G H =
       let A = remainder (sound a c) G in
       let C = remainder (sound a c) H in
-      let same = KeptIdeal.keeps-ideal S W calls s gs a (minus F f g) (Ideals.over-plus S W f (negated F g) (A .whole .over) (Ideals.over-negated S W g (C .whole .over))) in
+      let same = KeptIdeal.keeps-ideal S W calls s gs a (minus F f g) (Ideals.over-plus ground f (negated F g) (A .whole .over) (Ideals.over-negated ground g (C .whole .over))) in
       (λ e. same .0 (same-class a c f g r t A C e), λ m. same-rests a c f g r t A C (same .1 m))
 
   pub multiply : Remainders-multiply S
@@ -108,16 +112,16 @@ module _ (S : Setting) (W : Lawful S) where
       let X = remainder (sound a c) G₃ in
       let Y = remainder (sound a c) G₄ in
       same-rests a c h p u w X Y
-      (equal-member a c h (product F f g) p (product F r t) (X .whole .over) (Ideals.over-product S W f (A .whole .over) g (C .whole .over)) (Y .whole .over) (Ideals.over-product S W r (A .rest .over) t (C .rest .over)) e d
-      (Ideals.member-products S W (s .rows) (rows-over a c) f (A .whole .over) g (C .whole .over) r (A .rest .over) t (C .rest .over) (A .member) (C .member)))
+      (equal-member a c h (product F f g) p (product F r t) (X .whole .over) (Ideals.over-product ground f (A .whole .over) g (C .whole .over)) (Y .whole .over) (Ideals.over-product ground r (A .rest .over) t (C .rest .over)) e d
+      (Ideals.member-products ground (s .rows) (rows-over a c) f (A .whole .over) g (C .whole .over) r (A .rest .over) t (C .rest .over) (A .member) (C .member)))
 
   pub add : Remainders-add S
   add calls s gs a c f g h r t u e G₁ G₂ G₃ =
       let A = remainder (sound a c) G₁ in
       let C = remainder (sound a c) G₂ in
       let X = remainder (sound a c) G₃ in
-      let o : Over F N (plus r t) = Ideals.over-plus S W r t (A .rest .over) (C .rest .over) in
+      let o : Over F N (plus r t) = Ideals.over-plus ground r t (A .rest .over) (C .rest .over) in
       Sheets.sum-remainder S W s (sound a c) c u (X .rest .over) r (A .rest .over) t (C .rest .over) (X .irreducible) (A .irreducible) (C .irreducible)
       (diff a c u h (plus r t) (X .rest .over) (X .whole .over) o (swap a c h u (X .whole .over) (X .rest .over) (X .member))
-      (equal-member a c h (plus f g) (plus r t) (plus r t) (X .whole .over) (Ideals.over-plus S W f g (A .whole .over) (C .whole .over)) o o e (λ m. refl)
-      (Ideals.member-sums S W (s .rows) (rows-over a c) f (A .whole .over) g (C .whole .over) r (A .rest .over) t (C .rest .over) (A .member) (C .member))))
+      (equal-member a c h (plus f g) (plus r t) (plus r t) (X .whole .over) (Ideals.over-plus ground f g (A .whole .over) (C .whole .over)) o o e (λ m. refl)
+      (Ideals.member-sums ground (s .rows) (rows-over a c) f (A .whole .over) g (C .whole .over) r (A .rest .over) t (C .rest .over) (A .member) (C .member))))

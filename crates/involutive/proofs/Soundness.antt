@@ -26,7 +26,7 @@ use Rattle.involutive.specs.Log.{Call, After, added, not-added, stepped, reduc
 use Rattle.polynomial.proofs.Checking.{acceptable-from}
 use Rattle.involutive.proofs.Monomials
 use Rattle.involutive.proofs.Typing
-use Rattle.involutive.proofs.Typing.{Code, Nonzero}
+use Rattle.involutive.proofs.Typing.{Ground, ground-of, Code, Nonzero}
 use Rattle.involutive.proofs.Ideals
 use Rattle.involutive.proofs.Values
 use Rattle.involutive.specs.Sound.{Row, Sound, Soundness-kept}
@@ -49,6 +49,9 @@ place T p j w = ⊎-elim (λ e. inr (e, getD-push T p [] (j - 1) (omega arith)))
     n = length-append T (p ∷ []) ∙ omega arith
 
 module _ (S : Setting) (W : Lawful S) where
+  abbrev ground : Ground
+  ground = ground-of S W
+
   abbrev pub F : FieldMeaning
   F = S .field
 
@@ -75,8 +78,8 @@ module _ (S : Setting) (W : Lawful S) where
 
   pub written-scaled : (c : ℕ) (a : List ℕ) → 0 < c → c < F .q → In N a → (f : Poly) → Written F O N f → Written F O N (scaled F c a f)
   written-scaled c a p h w f v = record {
-    over = Ideals.over-scaled S W c a h w f (v .over);
-    nonzero = Ideals.each S W (λ f. Nonzero f → Nonzero (scaled F c a f)) (λ x n. rw (← (Typing.raw-scaled S W (c, h) (a, w) x)) (Typing.nonzero-scaled S W (c, h) (a, w) x p n)) f (v .over) (v .nonzero);
+    over = Ideals.over-scaled ground c a h w f (v .over);
+    nonzero = Ideals.each ground (λ f. Nonzero f → Nonzero (scaled F c a f)) (λ x n. rw (← (Typing.raw-scaled ground (c, h) (a, w) x)) (Typing.nonzero-scaled ground (c, h) (a, w) x p n)) f (v .over) (v .nonzero);
     falling = falling-scaled c a w (v .over) (v .falling);
   }
 
@@ -85,7 +88,7 @@ module _ (S : Setting) (W : Lawful S) where
   reduces-small {T} {room} (done {h = h} i) f l g d = let e : h ≡ g = cc in (subst Fits e f, subst (λ g. length g ≤ room) e l)
   reduces-small (wide r w) f l g d = let z : _≡_ {A = ℕ} 0 1 = cc in absurd (omega arith)
   reduces-small (long r w x m) f l g d = let z : _≡_ {A = ℕ} 0 1 = cc in absurd (omega arith)
-  reduces-small {T} (acts {h = h} {g = g′} {t = t} {k = k} r w x m rest) f l g d = reduces-small rest (Typing.fits-difference S W T h (multiple F O (S .division) N T t k) g′ x f w) m g d
+  reduces-small {T} (acts {h = h} {g = g′} {t = t} {k = k} r w x m rest) f l g d = reduces-small rest (Typing.fits-difference ground (S .division) T h (multiple F O (S .division) N T t k) g′ x f w) m g d
 
   -- what is left of an acceptable polynomial is acceptable
   pub reduces-acceptable : {T : Table} {h g : Poly} → Reduces F O (S .division) N T most-terms h (left g) → Acceptable F O N h → Acceptable F O N g × Irreducible F O (S .division) N T g
@@ -122,7 +125,7 @@ module _ (S : Setting) (W : Lawful S) where
       let w = a .written in
       let c : Code F = (t .coefficient, w .over t (List·Memᴰ·head refl) .0) in
       let p : 0 < t .coefficient = w .nonzero t (List·Memᴰ·head refl) in
-      let d = Typing.inverse S W c p in
+      let d = Typing.inverse ground c p in
       let b : F .inv (t .coefficient) < F .q = L .inv-below (t .coefficient) p (c .1) in
       let l : times one (exponents t) ≡ exponents t = ap (λ m. m .0) (Monomials.unit-mul (exponents t, w .over t (List·Memᴰ·head refl) .1)) in
       let r : Row S n = record {

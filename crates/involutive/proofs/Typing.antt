@@ -71,24 +71,33 @@ base {F} L N = record {
 abbrev pub Nonzero : Poly → Type 0
 Nonzero f = (t : Term) → List·Memᴰ t f → 0 < t .coefficient
 
-module _ (S : Setting) (W : Lawful S) where
+-- what polynomials are made of: a field, an order of monomials and a number of variables
+pub record Ground : Type 0 where
+  pub field : FieldMeaning
+  pub laws : FieldLaws field
+  pub order : Compare
+  pub order-laws : OrderLaws order
+  pub variables : ℕ
+
+-- that of a sheet
+abbrev pub ground-of : (S : Setting) → Lawful S → Ground
+ground-of S W = record { field = S .field; laws = W .field; order = S .order; order-laws = W .order; variables = S .variables }
+
+module _ (ground : Ground) where
   abbrev F : FieldMeaning
-  F = S .field
+  F = ground .field
 
   abbrev L : FieldLaws F
-  L = W .field
+  L = ground .laws
 
   abbrev N : ℕ
-  N = S .variables
+  N = ground .variables
 
   abbrev O : Compare
-  O = S .order
+  O = ground .order
 
   abbrev Q : OrderLaws O
-  Q = W .order
-
-  abbrev D : Split
-  D = S .division
+  Q = ground .order-laws
 
   abbrev pub B : Base
   B = base L N
@@ -194,16 +203,16 @@ module _ (S : Setting) (W : Lawful S) where
   pub raw-minus : (f g : Typed) → raw (f ++ Algebra.negated B g) ≡ Value.minus F (raw f) (raw g)
   raw-minus f g = raw-++ f (Algebra.negated B g) ∙ ap (λ x. raw f ++ x) (raw-negated g)
 
-  raw-multiple : (T : List Typed) (t : Code F × Mono N) (k : ℕ) → multiple F O D N (map raw T) (term (t .0 .0) (t .1 .0)) k ≡ raw (Algebra.scaled B (t .0) (Monomials.over (t .1) (lead (getD T (k - 1) []))) (getD T (k - 1) []))
-  raw-multiple T t k = rw (raw-row T (k - 1), raw-lead (getD T (k - 1) [])) (sym (raw-scaled (t .0) (Monomials.over (t .1) (lead (getD T (k - 1) []))) (getD T (k - 1) [])))
+  raw-multiple : (D : Split) (T : List Typed) (t : Code F × Mono N) (k : ℕ) → multiple F O D N (map raw T) (term (t .0 .0) (t .1 .0)) k ≡ raw (Algebra.scaled B (t .0) (Monomials.over (t .1) (lead (getD T (k - 1) []))) (getD T (k - 1) []))
+  raw-multiple D T t k = rw (raw-row T (k - 1), raw-lead (getD T (k - 1) [])) (sym (raw-scaled (t .0) (Monomials.over (t .1) (lead (getD T (k - 1) []))) (getD T (k - 1) [])))
 
-  pub action-value : (T : List Typed) (h g : Typed) (t : Code F × Mono N) (k : ℕ) → Difference F O D N (map raw T) (raw h) (multiple F O D N (map raw T) (term (t .0 .0) (t .1 .0)) k) (raw g) →
+  pub action-value : (D : Split) (T : List Typed) (h g : Typed) (t : Code F × Mono N) (k : ℕ) → Difference F O D N (map raw T) (raw h) (multiple F O D N (map raw T) (term (t .0 .0) (t .1 .0)) k) (raw g) →
       Algebra.at B g ≡ Algebra._⊕_ B (Algebra.at B h) (Algebra.⊖ B (Algebra.shift B (t .0) (Monomials.over (t .1) (lead (getD T (k - 1) []))) (Algebra.at B (getD T (k - 1) []))))
-  action-value T h g t k d =
+  action-value D T h g t k d =
       let r : Typed = getD T (k - 1) [] in
       let a : Mono N = Monomials.over (t .1) (lead r) in
       let s : Typed = Algebra.scaled B (t .0) a r in
-      let e : Algebra.at B g ≡ Algebra.at B (h ++ Algebra.negated B s) = from-equal g (h ++ Algebra.negated B s) (rw (raw-minus h s, ← (raw-multiple T t k)) (d .value)) in
+      let e : Algebra.at B g ≡ Algebra.at B (h ++ Algebra.negated B s) = from-equal g (h ++ Algebra.negated B s) (rw (raw-minus h s, ← (raw-multiple D T t k)) (d .value)) in
       e ∙ Algebra.at-++ B h (Algebra.negated B s) ∙ ap (Algebra._⊕_ B (Algebra.at B h)) (Algebra.at-negated B s ∙ ap (Algebra.⊖ B) (Algebra.at-scaled B (t .0) a r))
 
   pub at-minus : (f g : Typed) → Algebra.at B (f ++ Algebra.negated B g) ≡ minus f g
@@ -325,8 +334,8 @@ module _ (S : Setting) (W : Lawful S) where
   one-term h w t s m n e = let c : t .coefficient ≡ s .coefficient = sym (written-at h w t m) ∙ ap (Value.at F h) e ∙ written-at h w s n in λ i. record { coefficient = c i; monomial = record { exponents = e i } }
 
   -- a term of a written difference stands in one of the two
-  pub fits-difference : (T : List Poly) (h f g : Poly) → Difference F O D N T h f g → Fits h → Fits f → Fits g
-  fits-difference T h f g d a b t m = ⊎-elim
+  pub fits-difference : (D : Split) (T : List Poly) (h f g : Poly) → Difference F O D N T h f g → Fits h → Fits f → Fits g
+  fits-difference D T h f g d a b t m = ⊎-elim
       (λ r. subst (Bounded largest-exponent) (r .is) (Values.fits-minus F h f a b (r .by) (r .stands)))
       (λ z. absurd (omega (arith, d .written .nonzero t m, sym (written-at g (d .written) t m) ∙ d .value (exponents t) ∙ z)))
       (Values.occurs F (Value.minus F h f) (exponents t))

@@ -19,12 +19,16 @@ use Rattle.involutive.specs.Answers.{Judges, verdict-answer, impossible, possi
 use Rattle.monomial.proofs.Places.{agree-all, beyond, low}
 use Rattle.involutive.specs.Complete.{UnitRow}
 use Rattle.involutive.proofs.Monomials
+use Rattle.involutive.proofs.Typing.{Ground, ground-of}
 use Rattle.involutive.proofs.Ideals
 use Rattle.involutive.proofs.Soundness
 use Rattle.involutive.specs.Sound.{Row, Sound}
 use Rattle.involutive.proofs.Sheets
 
 module _ (S : Setting) (W : Lawful S) where
+  abbrev ground : Ground
+  ground = ground-of S W
+
   abbrev F : FieldMeaning
   F = S .field
 
@@ -78,7 +82,7 @@ module _ (S : Setting) (W : Lawful S) where
         record { k = r .0; within = w; leads = divides-one (leading (row (s .rows) (r .0))) (Soundness.row-wide S W I (r .0)) (subst (λ x. Divides x one) (Soundness.lead-at (s .rows) (r .0 - 1) (omega arith)) (r .1 .divides)) },
     λ u.
         let h : List·Memᴰ (row (s .rows) (u .k)) (s .rows) = Soundness.row-mem S W (s .rows) (u .k - 1) (omega (arith, u .within .0, u .within .1)) in
-        subst (Member F N (s .rows)) (monic-unit (row (s .rows) (u .k)) (I .each _ h) (u .leads)) (Ideals.member-generator S W (s .rows) (λ p k. I .each p k .acceptable .written .over) (row (s .rows) (u .k)) h),
+        subst (Member F N (s .rows)) (monic-unit (row (s .rows) (u .k)) (I .each _ h) (u .leads)) (Ideals.member-generator ground (s .rows) (λ p k. I .each p k .acceptable .written .over) (row (s .rows) (u .k)) h),
   )
 
   -- what a program may answer after it has looked at every row
