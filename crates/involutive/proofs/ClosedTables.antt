@@ -28,6 +28,8 @@ use Rattle.involutive.proofs.Typing
 use Rattle.involutive.proofs.Typing.{Ground, ground-of, Code, base, Beneath}
 use Rattle.involutive.proofs.Tables
 use Rattle.involutive.proofs.Tables.{Monic, Good}
+use Rattle.involutive.proofs.WrittenLists
+use Rattle.involutive.proofs.Lists
 
 module _ (S : Setting) (W : Lawful S) where
   abbrev ground : Ground
@@ -97,11 +99,6 @@ module _ (S : Setting) (W : Lawful S) where
         go (inl f) (yes d) (true, b) = inl (λ v w i. ⊎-elim (λ e. ap (D U (k .0)) e ∙ b) (λ e. f v (w .0, omega arith) i) (cases-eq v (suc n)))
         go (inl f) (yes d) (false, b) = inr (record { v = suc n; within = (omega arith, omega arith); inside = d; not-multiplicative = b })
 
-    mem-index : (T : List Typed) {g : Typed} → List·Memᴰ g T → (i : ℕ) × (i < length T) × (g ≡ getD T i [])
-    mem-index [] h = elim h [ ]
-    mem-index (p ∷ T) (List·Memᴰ·head e) = (0, omega arith, e)
-    mem-index (p ∷ T) (List·Memᴰ·tail h) = let r = mem-index T h in (suc (r .0), omega arith, r .2)
-
     abbrev NextRow : R → R → Type 0
     NextRow k j = Next D U (k .0) (j .0)
 
@@ -134,7 +131,7 @@ module _ (S : Setting) (W : Lawful S) where
       span-sum : {v : Algebra.V B} → Span B T v → Sums.Sum B chart (λ m. Unit) v
       span-sum (Algebra.none e) = Sums.nil e
       span-sum (Algebra.more {w = w} {g = g} c a h s e) =
-          let i = mem-index T h in
+          let i = Lists.member-entry [] T h in
           let k : R = (suc (i .0), omega arith) in
           let d : g ≡ nth T (k .0) = i .2 ∙ ap (λ x. getD T x []) (omega arith) in
           subst (Sums.Sum B chart (λ m. Unit)) (sym (e ∙ ap (λ x. Algebra._⊕_ B (Algebra.shift B c a (Algebra.at B x)) w) d)) (Sums.sum-⊕ B chart (Sums.sum-map B chart (λ m y. tt) (Sums.tame B chart NextRow row-wf split c k a)) (span-sum s))
@@ -149,7 +146,7 @@ module _ (S : Setting) (W : Lawful S) where
 
       -- irreducible polynomials that differ by a member of the ideal are the same
       pub one-remainder : (p q : Typed) → Sorted p → Sorted q → Irreducible F O D N (map raw T) (raw p) → Irreducible F O D N (map raw T) (raw q) → Span B T (Algebra._⊕_ B (Algebra.at B p) (Algebra.⊖ B (Algebra.at B q))) → p ≡ q
-      one-remainder p q s t i j h = Algebra.sorted-eq B (Beneath N O) (Typing.line ground) s t
+      one-remainder p q s t i j h = Algebra.sorted-eq B (Beneath N O) (WrittenLists.line ground) s t
           (Algebra.minus-zero B (Algebra.at B p) (Algebra.at B q) (Sums.irreducible-zero B chart (span-sum h) (λ k a m. Algebra.minus-off B (Algebra.at B p) (Algebra.at B q) _ (absent p i k a m) (absent q j k a m))))
 
       -- and so is one that differs so from the sum of two
@@ -162,8 +159,8 @@ module _ (S : Setting) (W : Lawful S) where
       lead-divisor t p s h =
           let q = Tables.sorted-parts S W s in
           let r = Sums.led B chart (span-sum h) (t .1)
-          (λ z. q .2 (sym (Algebra.at-top B (Beneath N O) (Typing.line ground) t p (q .0)) ∙ z))
-          (λ u l. Algebra.at-below B (Beneath N O) (Typing.line ground) (Algebra.more-below l (Algebra.below-up B (Beneath N O) (Typing.line ground) l (q .0)))) in
+          (λ z. q .2 (sym (Algebra.at-top B (Beneath N O) (WrittenLists.line ground) t p (q .0)) ∙ z))
+          (λ u l. Algebra.at-below B (Beneath N O) (WrittenLists.line ground) (Algebra.more-below l (Algebra.below-up B (Beneath N O) (WrittenLists.line ground) l (q .0)))) in
           (r .k .0, subst (λ x. Involutive D U (r .k .0) (x .0)) (r .height) (Tables.involutive S W T G (r .k) (r .a) (r .mul)))
 
       -- copies of the rows whose leading monomials are minimal
@@ -204,7 +201,7 @@ module _ (S : Setting) (W : Lawful S) where
           one-up a j = ap (Algebra.shift B (B .𝟙) a (Algebra.at B (nth T (j .0)))) (Monomials.mul-comm (leader j) a) ∙ Sums.term-at B chart (B .𝟙) a j
 
           member : (k : R) → List·Memᴰ (nth T (k .0)) T
-          member k = Typing.row-member ground T (k .0 - 1) (omega arith)
+          member k = Lists.entry-member [] T (k .0 - 1) (omega arith)
 
           start : (k : R) → ((j : R) → Beneath N O (leader j) (leader k) → Span B P (Algebra.at B (nth T (j .0)))) → Sums.Start B chart (Span B P) k
           start k ih = go (look k (length T) (omega arith))
@@ -233,7 +230,7 @@ module _ (S : Setting) (W : Lawful S) where
 
       pub regenerate-all : (P : List Typed) → ((k : R) → Lowest k → Copy P k) → (g : Typed) → List·Memᴰ g T → Span B P (Algebra.at B g)
       regenerate-all P copy g h =
-          let i = mem-index T h in
+          let i = Lists.member-entry [] T h in
           let k : R = (suc (i .0), omega arith) in
           let d : g ≡ nth T (k .0) = i .2 ∙ ap (λ x. getD T x []) (omega arith) in
           subst (λ x. Span B P (Algebra.at B x)) (sym d) (regenerate P copy k)

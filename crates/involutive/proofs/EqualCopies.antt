@@ -1,8 +1,7 @@
 -- Equal copies of closed sheets and one ideal are the same thing, whatever the divisions.
 use mathlib.Core.Path.{_≡_, refl, sym, _∙_, ap, subst}
-use mathlib.Core.List.{List, _∷_, _++_, List·Memᴰ, List·Memᴰ·head, List·Memᴰ·tail}
+use mathlib.Core.List.{List, [], _∷_, _++_, List·Memᴰ, List·Memᴰ·head, List·Memᴰ·tail}
 use Prim.Native.Nat.{ℕ, suc, _-_, _≤_}
-use Rattle.std.specs.declared.cmp.Ordering.the-variants.{Less, Equal as Same}
 use native.Mathlib.Omega.{arith}
 use lib.ListN.{length, getD, length-map, take, drop}
 use lib.Seq.{take-append-seam}
@@ -31,6 +30,7 @@ use Rattle.involutive.proofs.Soundness
 use Rattle.involutive.specs.Sound.{Sound}
 use Rattle.involutive.proofs.Sheets
 use Rattle.involutive.proofs.KeptIdeal
+use Rattle.involutive.proofs.WrittenLists
 
 divides-trans : (u m n : List ℕ) → Divides u m → Divides m n → Divides u n
 divides-trans u m n h k v = omega (arith, h v, k v)
@@ -95,9 +95,6 @@ module _ (S : Setting) (W : Lawful S) where
     selection : Selection (set D) s ks
     copied : Beside (set D) s ks fs
 
-  asym : (u m : List ℕ) → Wide u → Wide m → Under O u m → Under O m u → ⊥
-  asym u m a b h k = let z : Less ≡ Same = sym (Q .transitive u m u a b a h k) ∙ Q .equal u u a a .1 refl in let y : _≡_ {A = ℕ} 0 1 = cc in omega arith
-
   module _ {D : Split} {E : DivisionLaws D} (A : Side D E) where
     abbrev leader : ℕ → List ℕ
     leader k = leading (row (A .s .rows) k)
@@ -124,7 +121,7 @@ module _ (S : Setting) (W : Lawful S) where
     rows-over = Sheets.rows-over (set D) (lawful E) (A .sound)
 
     row-member : (k : ℕ) → InRows k → Member F N (A .s .rows) (row (A .s .rows) k)
-    row-member k w = Ideals.member-generator ground (A .s .rows) rows-over (row (A .s .rows) k) (Soundness.row-mem (set D) (lawful E) (A .s .rows) (k - 1) (omega arith))
+    row-member k w = Ideals.member-generator ground (A .s .rows) rows-over (row (A .s .rows) k) (Lists.entry-member [] (A .s .rows) (k - 1) (omega arith))
 
     in-rows : (k : ℕ) → List·Memᴰ k (A .ks) → InRows k
     in-rows k h = A .selection .minimal k .0 h .within
@@ -188,7 +185,7 @@ module _ (S : Setting) (W : Lawful S) where
         let an : In N a = Monomials.in-quotient (leader A k) c (wide-leader A k) in
         let l : Divides (leader A k) (exponents t) = subst (λ x. Divides x (exponents t)) (Soundness.lead-at (A .s .rows) (k - 1) (omega arith)) (v .divides) in
         let p : Poly = scaled F 1 a (row (A .s .rows) k) in
-        let pw : Written F O N p = Soundness.written-scaled (set D) (lawful E) 1 a (omega arith) (L .differ) an (row (A .s .rows) k) (f .good) in
+        let pw : Written F O N p = WrittenLists.written-scaled ground 1 a (omega arith) (L .differ) an (row (A .s .rows) k) (f .good) in
         let pm : Member F N (A .s .rows) p = Ideals.member-scaled ground 1 a (L .differ) an (A .s .rows) (rows-over A) (row (A .s .rows) k) (f .good .over) (row-member A k n) in
         let e : p ≡ scaled F 1 a (term 1 (leader A k) ∷ f .tail) = ap (scaled F 1 a) (f .is) in
         let r = Sheets.lead-divisor (set D′) (lawful E′) (C .s) (C .sound) (C .closed) (term (F .mul 1 1) (times a (leader A k))) (scaled F 1 a (f .tail)) (subst (Written F O N) e pw) (subst (Member F N (C .s .rows)) e (i p (pw .over) pm)) in
@@ -218,7 +215,7 @@ module _ (S : Setting) (W : Lawful S) where
   Lower f g = Wide (leading f) × Wide (leading g) × Under O (leading f) (leading g)
 
   lower-asym : (f g : Poly) → Lower f g → Lower g f → ⊥
-  lower-asym f g a b = asym (leading f) (leading g) (a .0) (a .1) (a .2) (b .2)
+  lower-asym f g a b = WrittenLists.under-asym Q (leading f) (leading g) (a .0) (a .1) (a .2) (b .2)
 
   module _ {D : Split} {E : DivisionLaws D} (A : Side D E) where
     leads : (k : ℕ) {f : Poly} → InRows A k → CopyOf (set D) (A .s) k f → leading f ≡ leader A k

@@ -1,6 +1,6 @@
 -- The polynomial and ideal layer, stated over specs/ alone.
 use mathlib.Core.Path.{_≡_, refl, sym, _∙_, ap, subst, subst₂}
-use mathlib.Core.List.{List, [], _∷_, _++_, map, List·Memᴰ, List·Memᴰ·head, List·Memᴰ·tail, List·Memᴰ·append-cases, Memᴰ·append-left, Memᴰ·append-right}
+use mathlib.Core.List.{List, [], _∷_, _++_, map, List·Memᴰ, List·Memᴰ·append-cases, Memᴰ·append-left, Memᴰ·append-right}
 use mathlib.Core.Logic.{⊎-elim}
 use Prim.Native.Nat.{ℕ, _<_}
 use Rattle.field.specs.Field.{FieldMeaning, FieldLaws}
@@ -16,6 +16,7 @@ use Rattle.involutive.proofs.Monomials.{Mono}
 use Rattle.involutive.proofs.Typing
 use Rattle.involutive.proofs.Membership
 use Rattle.involutive.proofs.Typing.{Ground, Code, base}
+use Rattle.involutive.proofs.Lists
 
 abbrev pub Overs : FieldMeaning → ℕ → List Poly → Type 0
 Overs F N gs = (g : Poly) → List·Memᴰ g gs → Over F N g
@@ -159,13 +160,8 @@ module _ (ground : Ground) where
       let e : Algebra.at B (p ++ Algebra.negated B q) ≡ Algebra._⊕_ B (Algebra.at B (u ∷ p)) (Algebra.⊖ B (Algebra.at B (u ∷ q))) = Algebra.at-++ B p (Algebra.negated B q) ∙ ap (Algebra._⊕_ B (Algebra.at B p)) (Algebra.at-negated B q) ∙ sym (Algebra.minus-front B x (Algebra.at B p) (Algebra.at B q)) in
       member gs (p ++ Algebra.negated B q) (Typing.raw-minus ground p q) (subst (Span B gs) (sym e) (Algebra.span-⊕ B (Membership.member-span ground gs (u ∷ p) h) (Algebra.span-⊖ B (Membership.member-span ground gs (u ∷ q) k)))))))
 
-  pub raw-memᴰ : (gs : List Typed) {f : Poly} → List·Memᴰ f (map raw gs) → (p : Typed) × List·Memᴰ p gs × (raw p ≡ f)
-  raw-memᴰ [] h = elim h [ ]
-  raw-memᴰ (g ∷ gs) (List·Memᴰ·head e) = (g, List·Memᴰ·head refl, sym e)
-  raw-memᴰ (g ∷ gs) (List·Memᴰ·tail h) = let r = raw-memᴰ gs h in (r .0, List·Memᴰ·tail (r .1), r .2)
-
   pub member-generator : (gs : List Poly) → Overs F N gs → (g : Poly) → List·Memᴰ g gs → Member F N gs g
-  member-generator = eachs _ (λ gs g h. let r = raw-memᴰ gs h in member gs (r .0) (r .2) (Algebra.span-gen B (r .1)))
+  member-generator = eachs _ (λ gs g h. let r = Lists.map-member raw gs h in member gs (r .0) (r .2) (Algebra.span-gen B (r .1)))
 
   pub turned : {gs hs : List Poly} → SameIdeal F N gs hs → SameIdeal F N hs gs
   turned h f o = (h f o .1, h f o .0)
@@ -175,11 +171,11 @@ module _ (ground : Ground) where
 
   -- the ideals are the same where each generator is a member of the other
   pub same-ideal : (gs : List Poly) → Overs F N gs → (hs : List Poly) → Overs F N hs → ((g : Poly) → List·Memᴰ g gs → Member F N hs g) → ((h : Poly) → List·Memᴰ h hs → Member F N gs h) → SameIdeal F N gs hs
-  same-ideal = eachs _ (λ gs. eachs _ (λ hs p q. Membership.same-ideal ground gs hs (λ g m. Membership.member-span ground hs g (p (raw g) (Typing.mem-raw ground gs m))) (λ h m. Membership.member-span ground gs h (q (raw h) (Typing.mem-raw ground hs m)))))
+  same-ideal = eachs _ (λ gs. eachs _ (λ hs p q. Membership.same-ideal ground gs hs (λ g m. Membership.member-span ground hs g (p (raw g) (Lists.member-map raw gs m))) (λ h m. Membership.member-span ground gs h (q (raw h) (Lists.member-map raw hs m)))))
 
   -- members of the ideal of gs, where each of gs lies in that of hs
   pub member-through : (gs : List Poly) → Overs F N gs → (hs : List Poly) → Overs F N hs → ((g : Poly) → List·Memᴰ g gs → Member F N hs g) → (f : Poly) → Over F N f → Member F N gs f → Member F N hs f
-  member-through = eachs _ (λ gs. eachs _ (λ hs p. each _ (λ f m. Membership.span-member ground hs f (Algebra.span-trans B (λ g h. Membership.member-span ground hs g (p (raw g) (Typing.mem-raw ground gs h))) (Membership.member-span ground gs f m)))))
+  member-through = eachs _ (λ gs. eachs _ (λ hs p. each _ (λ f m. Membership.span-member ground hs f (Algebra.span-trans B (λ g h. Membership.member-span ground hs g (p (raw g) (Lists.member-map raw gs h))) (Membership.member-span ground gs f m)))))
 
   pub over-append : (gs hs : List Poly) → Overs F N gs → Overs F N hs → Overs F N (gs ++ hs)
   over-append gs hs o o′ g m = ⊎-elim (λ k. o g k) (λ k. o′ g k) (List·Memᴰ·append-cases gs m)

@@ -23,6 +23,7 @@ use Rattle.involutive.proofs.Ideals
 use Rattle.involutive.proofs.Ideals.{Overs}
 use Rattle.involutive.proofs.Soundness
 use Rattle.involutive.proofs.Sheets
+use Rattle.involutive.proofs.Lists
 
 module _ (S : Setting) (W : Lawful S) where
   abbrev ground : Ground
@@ -116,7 +117,7 @@ module _ (S : Setting) (W : Lawful S) where
       let d = divided u in
       let n : Poly = scaled F (F .inv (t .coefficient)) one (t ∷ g) in
       let p : Member F N (s .rows) (prolonged S s k v) = Ideals.member-scaled ground 1 (variable v) (L .differ) (Monomials.in-variable (c .pair .at-variable)) (s .rows) o (row (s .rows) k) (Soundness.row-written S W so k .over)
-      (Ideals.member-generator ground (s .rows) o (row (s .rows) k) (Soundness.row-mem S W (s .rows) (k - 1) (omega (arith, c .pair .at-row .0, c .pair .at-row .1)))) in
+      (Ideals.member-generator ground (s .rows) o (row (s .rows) k) (Lists.entry-member [] (s .rows) (k - 1) (omega (arith, c .pair .at-row .0, c .pair .at-row .1)))) in
       let m : Member F N (s .rows) n = d .there (s .rows) o (Ideals.member-back ground (s .rows) o (prolonged S s k v) (w .over) (t ∷ g) (u .over) (Sheets.reduced-member S W so (prolonged S s k v) (t ∷ g) w r) p) in
       record { over = I .over; same = Ideals.chain ground (Ideals.turned ground (Ideals.same-append ground (s .rows) o (n ∷ []) (alone n (d .over)) (only n m))) (I .same) }
 

@@ -3,6 +3,7 @@ pub mod Algebra
 pub mod Monomials
 pub mod Values
 pub mod Typing
+pub mod WrittenLists
 pub mod Membership
 pub mod Ideals
 pub mod Bytes

@@ -20,6 +20,7 @@ use Rattle.involutive.proofs.Monomials
 use Rattle.involutive.proofs.Lists
 use Rattle.involutive.proofs.Soundness
 use Rattle.involutive.specs.Sound.{Sound}
+use Rattle.involutive.proofs.WrittenLists
 
 variable-one : (v u : ℕ) → Within v width → Within u width → variable v ≡ variable u → v ≡ u
 variable-one v u a b e = ⊎-elim (λ d. omega arith)
@@ -47,9 +48,9 @@ module _ (S : Setting) (W : Lawful S) (s : State) (I : Sound S s) where
       wide-height k v = length-times (variable v) (leading (row (s .rows) k)) (wide-variable v ∙ sym (Soundness.row-wide S W I k)) ∙ Soundness.row-wide S W I k
 
       go : Under O (height s k v) (height s j u) ⊎ ((height s k v ≡ height s j u) × (k ≤ j)) → Under O (height s j u) (height s k v) ⊎ ((height s j u ≡ height s k v) × (j ≤ k)) → (k ≡ j) × (v ≡ u)
-      go (inl x) (inl y) = absurd (Soundness.under-asym S W (height s k v) (height s j u) (wide-height k v) (wide-height j u) x y)
-      go (inl x) (inr y) = absurd (let z : Under O (height s k v) (height s k v) = subst (Under O (height s k v)) (y .0) x in Soundness.under-asym S W (height s k v) (height s k v) (wide-height k v) (wide-height k v) z z)
-      go (inr x) (inl y) = absurd (let z : Under O (height s j u) (height s j u) = subst (Under O (height s j u)) (x .0) y in Soundness.under-asym S W (height s j u) (height s j u) (wide-height j u) (wide-height j u) z z)
+      go (inl x) (inl y) = absurd (WrittenLists.under-asym (W .order) (height s k v) (height s j u) (wide-height k v) (wide-height j u) x y)
+      go (inl x) (inr y) = absurd (let z : Under O (height s k v) (height s k v) = subst (Under O (height s k v)) (y .0) x in WrittenLists.under-asym (W .order) (height s k v) (height s k v) (wide-height k v) (wide-height k v) z z)
+      go (inr x) (inl y) = absurd (let z : Under O (height s j u) (height s j u) = subst (Under O (height s j u)) (x .0) y in WrittenLists.under-asym (W .order) (height s j u) (height s j u) (wide-height j u) (wide-height j u) z z)
       go (inr x) (inr y) =
           let e : k ≡ j = omega arith in
           let m : List ℕ = leading (row (s .rows) j) in
@@ -59,5 +60,5 @@ module _ (S : Setting) (W : Lawful S) (s : State) (I : Sound S s) where
           (e, variable-one v u (a .pair .at-variable .0, omega (arith, a .pair .at-variable .1, W .variables .1)) (b .pair .at-variable .0, omega (arith, b .pair .at-variable .1, W .variables .1)) c)
 
   pub selection-one : {ks js : List ℕ} → Selection S s ks → Selection S s js → ks ≡ js
-  selection-one a b = Lists.up-eq (λ j k. Under O (leading (row (s .rows) j)) (leading (row (s .rows) k))) (λ j k. Soundness.under-asym S W (leading (row (s .rows) j)) (leading (row (s .rows) k)) (Soundness.row-wide S W I j) (Soundness.row-wide S W I k))
+  selection-one a b = Lists.up-eq (λ j k. Under O (leading (row (s .rows) j)) (leading (row (s .rows) k))) (λ j k. WrittenLists.under-asym (W .order) (leading (row (s .rows) j)) (leading (row (s .rows) k)) (Soundness.row-wide S W I j) (Soundness.row-wide S W I k))
       (Soundness.rising-up S W I (a .rising)) (Soundness.rising-up S W I (b .rising)) (λ k h. b .minimal k .1 (a .minimal k .0 h)) (λ k h. a .minimal k .1 (b .minimal k .0 h))

@@ -18,10 +18,10 @@ use Rattle.polynomial.specs.Check.{Fits}
 use Rattle.involutive.specs.Sheet.{Setting, State, Lawful}
 use Rattle.involutive.specs.Answers.{ReducesTo}
 use Rattle.involutive.proofs.Monomials.{Mono}
-use Rattle.involutive.proofs.Typing
 use Rattle.involutive.proofs.Typing.{Ground, ground-of, Beneath}
 use Rattle.involutive.proofs.Soundness
 use Rattle.involutive.specs.Sound.{Sound}
+use Rattle.involutive.proofs.WrittenLists
 
 module _ (S : Setting) (W : Lawful S) where
   abbrev ground : Ground
@@ -45,7 +45,7 @@ module _ (S : Setting) (W : Lawful S) where
     one-row m w j k a b = W .division .no-two (leaders T) U m w j k a b
 
     one-action : (h : Poly) → Written F O N h → (t s : Term) (k j : ℕ) → Reducible F O D N T h t k → Reducible F O D N T h s j → (t ≡ s) × (k ≡ j)
-    one-action h w t s k j a b = go (Typing.under-tri ground (exponents t, x) (exponents s, y))
+    one-action h w t s k j a b = go (WrittenLists.under-tri ground (exponents t, x) (exponents s, y))
       where
         x : In N (exponents t)
         x = w .over t (a .stands) .1
@@ -57,13 +57,13 @@ module _ (S : Setting) (W : Lawful S) where
         go (inl l) = absurd (a .greatest s (b .stands) l j (b .divisor))
         go (inr (inr l)) = absurd (b .greatest t (a .stands) l k (a .divisor))
         go (inr (inl e)) =
-            let d : t ≡ s = Typing.one-term ground h w t s (a .stands) (b .stands) (ap (λ m. m .0) e) in
+            let d : t ≡ s = WrittenLists.one-term ground h w t s (a .stands) (b .stands) (ap (λ m. m .0) e) in
             (d, one-row (exponents t) (x .wide) k j (a .divisor) (subst (λ t. Involutive D (leaders T) j (exponents t)) (sym d) (b .divisor)))
 
     one-difference : (h : Poly) → Written F O N h → (t s : Term) (k j : ℕ) → Reducible F O D N T h t k → Reducible F O D N T h s j → (g g′ : Poly) → Difference F O D N T h (multiple F O D N T t k) g → Difference F O D N T h (multiple F O D N T s j) g′ → g ≡ g′
     one-difference h w t s k j a b g g′ x y =
         let e = one-action h w t s k j a b in
-        Typing.written-eq ground g g′ (x .written) (y .written) (λ m. x .value m ∙ ap (λ f. Value.at F (minus F h f) m) (λ i. multiple F O D N T (e .0 i) (e .1 i)) ∙ sym (y .value m))
+        WrittenLists.written-eq ground g g′ (x .written) (y .written) (λ m. x .value m ∙ ap (λ f. Value.at F (minus F h f) m) (λ i. multiple F O D N T (e .0 i) (e .1 i)) ∙ sym (y .value m))
 
     -- reducing comes to one thing
     pub reduces-one : {room : ℕ} {h : Poly} {o o′ : Outcome} → Reduces F O D N T room h o → Written F O N h → Reduces F O D N T room h o′ → o ≡ o′

@@ -32,6 +32,8 @@ use Rattle.involutive.proofs.Copying.{CopyOf, Beside, beside, copy-from, copy-
 use Rattle.involutive.specs.Sound.{Sound}
 use Rattle.involutive.proofs.Tables
 use Rattle.involutive.proofs.ClosedTables
+use Rattle.involutive.proofs.WrittenLists
+use Rattle.involutive.proofs.Lists
 
 module _ (S : Setting) (W : Lawful S) where
   abbrev ground : Ground
@@ -85,7 +87,7 @@ module _ (S : Setting) (W : Lawful S) where
   pub reduced-member : {s : State} → Sound S s → {room : ℕ} (h g : Poly) → Written F O N h → ReducesTo S s room h (left g) → Member F N (s .rows) (Value.minus F h g)
   reduced-member {s} I {room} h g w = on-sound s I (λ R. Reduces F O D N R room h (left g) → Member F N R (Value.minus F h g)) (λ T J r.
       let p = Typing.typed ground h (w .over) in
-      let z = Tables.left-over S W T (Tables.typed-good S W T (s .marks) J) {room = room} (p .0) {g = g} (subst (λ h. Reduces F O D N (map raw T) room h (left g)) (sym (p .1)) r) (Typing.written-sorted ground (p .0) (subst (Written F O N) (sym (p .1)) w)) in
+      let z = Tables.left-over S W T (Tables.typed-good S W T (s .marks) J) {room = room} (p .0) {g = g} (subst (λ h. Reduces F O D N (map raw T) room h (left g)) (sym (p .1)) r) (WrittenLists.written-sorted ground (p .0) (subst (Written F O N) (sym (p .1)) w)) in
       subst₂ (λ h g. Member F N (map raw T) (Value.minus F h g)) (p .1) (z .is) (Ideals.from-span ground T (p .0) (z .poly) (z .span)))
 
   -- the leading monomial of a member has an involutive divisor
@@ -96,7 +98,7 @@ module _ (S : Setting) (W : Lawful S) where
       go : {t : Term} {f : Poly} (T : List Typed) → Sound S (st (map raw T) (s .marks)) → Closed S (st (map raw T) (s .marks)) → (p : Typed) × (raw p ≡ t ∷ f) → Written F O N (t ∷ f) → Member F N (map raw T) (t ∷ f) → (k : ℕ) × Involutive D (leaders (map raw T)) k (exponents t)
       go T J d ([], e) w m = let z : _≡_ {A = ℕ} 0 (suc _) = ap length e in absurd (omega arith)
       go {t} {f} T J d (u ∷ p, e) w m =
-          let r = ClosedTables.lead-divisor S W T (Tables.typed-good S W T (s .marks) J) (closing T (s .marks) J d) u p (Typing.written-sorted ground (u ∷ p) (subst (Written F O N) (sym e) w)) (Membership.member-span ground T (u ∷ p) (subst (Member F N (map raw T)) (sym e) m)) in
+          let r = ClosedTables.lead-divisor S W T (Tables.typed-good S W T (s .marks) J) (closing T (s .marks) J d) u p (WrittenLists.written-sorted ground (u ∷ p) (subst (Written F O N) (sym e) w)) (Membership.member-span ground T (u ∷ p) (subst (Member F N (map raw T)) (sym e) m)) in
           (r .0, subst (Involutive D (leaders (map raw T)) (r .0)) (ap leading e) (r .1))
 
   -- irreducible polynomials that differ by a member are the same
@@ -106,7 +108,7 @@ module _ (S : Setting) (W : Lawful S) where
       let p = Typing.typed ground f (v .over) in
       let q = Typing.typed ground g (w .over) in
       sym (p .1) ∙ ap raw (ClosedTables.one-remainder S W T (Tables.typed-good S W T (s .marks) J) (closing T (s .marks) J d) (p .0) (q .0)
-      (Typing.written-sorted ground (p .0) (subst (Written F O N) (sym (p .1)) v)) (Typing.written-sorted ground (q .0) (subst (Written F O N) (sym (q .1)) w))
+      (WrittenLists.written-sorted ground (p .0) (subst (Written F O N) (sym (p .1)) v)) (WrittenLists.written-sorted ground (q .0) (subst (Written F O N) (sym (q .1)) w))
       (subst (Irreducible F O D N (map raw T)) (sym (p .1)) i) (subst (Irreducible F O D N (map raw T)) (sym (q .1)) j)
       (Ideals.to-span ground T (p .0) (q .0) (subst₂ (λ f g. Member F N (map raw T) (Value.minus F f g)) (sym (p .1)) (sym (q .1)) m))) ∙ q .1)
 
@@ -129,7 +131,7 @@ module _ (S : Setting) (W : Lawful S) where
   tidied T m I k w {f} c = subst (Tidied T m I k w) (sym (c .is)) (Tables.tidied S W T (Tables.typed-good S W T m I) (k, w) (c .reduced))
 
   tidied-span : (T : List Typed) (m : ℕ → ℕ → Bool) (I : Sound S (st (map raw T) m)) (k : ℕ) (w : Within k (length T)) {f : Poly} (t : Tidied T m I k w f) → Span B T (Algebra.at B (t .poly))
-  tidied-span T m I k w t = Algebra.span-back B _ _ (t .span) (Algebra.span-gen B (Typing.row-member ground T (k - 1) (omega arith)))
+  tidied-span T m I k w t = Algebra.span-back B _ _ (t .span) (Algebra.span-gen B (Lists.entry-member [] T (k - 1) (omega arith)))
 
   -- a copy is written, and a member
   pub record Fair (s : State) (k : ℕ) (f : Poly) : Type 0 where
@@ -143,7 +145,7 @@ module _ (S : Setting) (W : Lawful S) where
       let t = tidied T (s .marks) J k u d in
       let m : Tables.Sorted S W (t .poly) = rw (t .monic .is) (t .monic .sorted) in
       record {
-        good = subst (Written F O N) (t .is) (Typing.sorted-written ground (t .poly) m);
+        good = subst (Written F O N) (t .is) (WrittenLists.sorted-written ground (t .poly) m);
         member = subst (Member F N (map raw T)) (t .is) (Membership.span-member ground T (t .poly) (tidied-span T (s .marks) J k u t));
       }) w c
 
@@ -168,10 +170,10 @@ module _ (S : Setting) (W : Lawful S) where
           (ClosedTables.regenerate-all S W T (Tables.typed-good S W T m J) (closing T m J d) (P .0) (λ k low.
           let a = copy-to S (st (map raw T) m) b (k .0) (sel .minimal (k .0) .1 (lowest-minimal T m J (k .0) (k .1) low)) in
           let t = tidied T m J (k .0) (k .1) (a .copy) in
-          let r = Ideals.raw-memᴰ ground (P .0) (subst (List·Memᴰ (a .f)) (sym (P .1)) (a .stands)) in
+          let r = Lists.map-member raw (P .0) (subst (List·Memᴰ (a .f)) (sym (P .1)) (a .stands)) in
           record { poly = t .poly; inside = subst (Span B (P .0)) (Typing.same-value ground (r .0) (t .poly) (r .2 ∙ sym (t .is))) (Algebra.span-gen B (r .1)); monic = t .monic; leads = t .leads; span = t .span }))
           (λ h k.
-          let a = copy-from S (st (map raw T) m) b (raw h) (subst (List·Memᴰ (raw h)) (P .1) (Typing.mem-raw ground (P .0) k)) in
+          let a = copy-from S (st (map raw T) m) b (raw h) (subst (List·Memᴰ (raw h)) (P .1) (Lists.member-map raw (P .0) k)) in
           let w : Within (a .k) (length T) = rw (length-map T raw) at (sel .minimal (a .k) .0 (a .stands) .within) in
           let t = tidied T m J (a .k) w (a .copy) in
           subst (Span B T) (Typing.same-value ground (t .poly) h (t .is)) (tidied-span T m J (a .k) w t)))

@@ -4,7 +4,6 @@ use mathlib.Core.Bool.{false, _&&_}
 use mathlib.Core.List.{List, [], _∷_, _++_, map, List·Memᴰ, List·Memᴰ·head, List·Memᴰ·tail, List·Memᴰ·cases-cons}
 use mathlib.Core.Logic.{_⊎_, inl, inr, ⊎-elim}
 use Prim.Native.Nat.{ℕ, zero, suc, _-_, _≤_, _<_}
-use Rattle.std.specs.declared.cmp.Ordering.the-variants.{Less, Equal as Same}
 use native.Mathlib.Omega.{arith}
 use lib.ListN.{length, getD, length-map, drop, length-append}
 use lib.Dec.{eqb}
@@ -13,7 +12,7 @@ use Rattle.std.proofs.shelf.Lists.{getD-append-left, getD-push}
 use Rattle.std.specs.declared.option.Option.the-variants.{None}
 use Rattle.polynomial.specs.declared.term.Term.{Term}
 use Rattle.field.specs.Field.{FieldMeaning, FieldLaws}
-use Rattle.monomial.specs.Monomial.{In, Wide, Bounded, variable, one, times, quotient}
+use Rattle.monomial.specs.Monomial.{Wide, Bounded, variable, one, times, quotient}
 use Rattle.monomial.specs.Order.{Compare, Under}
 use Rattle.monomial.specs.Division.{Within, Distinct, member}
 use Rattle.polynomial.specs.Polynomial.{Poly, Over, term, exponents, Written, Falling, none, single, more}
@@ -26,8 +25,8 @@ use Rattle.involutive.specs.Log.{Call, After, added, not-added, stepped, reduc
 use Rattle.polynomial.proofs.Checking.{acceptable-from}
 use Rattle.involutive.proofs.Monomials
 use Rattle.involutive.proofs.Typing
-use Rattle.involutive.proofs.Typing.{Ground, ground-of, Code, Nonzero}
-use Rattle.involutive.proofs.Ideals
+use Rattle.involutive.proofs.WrittenLists
+use Rattle.involutive.proofs.Typing.{Ground, ground-of, Code}
 use Rattle.involutive.proofs.Values
 use Rattle.involutive.specs.Sound.{Row, Sound, Soundness-kept}
 use Rattle.involutive.proofs.Lists
@@ -71,24 +70,12 @@ module _ (S : Setting) (W : Lawful S) where
   reduces-written (long r f x l) w g d = let z : _≡_ {A = ℕ} 0 1 = cc in absurd (omega arith)
   reduces-written (acts r f x l rest) w g d = reduces-written rest (x .written) g d
 
-  falling-scaled : (c : ℕ) (a : List ℕ) → In N a → {f : Poly} → Over F N f → Falling O f → Falling O (scaled F c a f)
-  falling-scaled c a w o none = none
-  falling-scaled c a w o single = single
-  falling-scaled c a w o (more {t = t} {s = s} h f) = more (W .order .factor a (exponents s) (exponents t) (w .wide) (o s (List·Memᴰ·tail (List·Memᴰ·head refl)) .1 .wide) (o t (List·Memᴰ·head refl) .1 .wide) ∙ h) (falling-scaled c a w (λ x k. o x (List·Memᴰ·tail k)) f)
-
-  pub written-scaled : (c : ℕ) (a : List ℕ) → 0 < c → c < F .q → In N a → (f : Poly) → Written F O N f → Written F O N (scaled F c a f)
-  written-scaled c a p h w f v = record {
-    over = Ideals.over-scaled ground c a h w f (v .over);
-    nonzero = Ideals.each ground (λ f. Nonzero f → Nonzero (scaled F c a f)) (λ x n. rw (← (Typing.raw-scaled ground (c, h) (a, w) x)) (Typing.nonzero-scaled ground (c, h) (a, w) x p n)) f (v .over) (v .nonzero);
-    falling = falling-scaled c a w (v .over) (v .falling);
-  }
-
   -- nor do they outgrow the limits
   pub reduces-small : {T : Table} {room : ℕ} {h : Poly} {o : Outcome} → Reduces F O (S .division) N T room h o → Fits h → length h ≤ room → (g : Poly) → o ≡ left g → Fits g × (length g ≤ room)
   reduces-small {T} {room} (done {h = h} i) f l g d = let e : h ≡ g = cc in (subst Fits e f, subst (λ g. length g ≤ room) e l)
   reduces-small (wide r w) f l g d = let z : _≡_ {A = ℕ} 0 1 = cc in absurd (omega arith)
   reduces-small (long r w x m) f l g d = let z : _≡_ {A = ℕ} 0 1 = cc in absurd (omega arith)
-  reduces-small {T} (acts {h = h} {g = g′} {t = t} {k = k} r w x m rest) f l g d = reduces-small rest (Typing.fits-difference ground (S .division) T h (multiple F O (S .division) N T t k) g′ x f w) m g d
+  reduces-small {T} (acts {h = h} {g = g′} {t = t} {k = k} r w x m rest) f l g d = reduces-small rest (WrittenLists.fits-difference ground (S .division) T h (multiple F O (S .division) N T t k) g′ x f w) m g d
 
   -- what is left of an acceptable polynomial is acceptable
   pub reduces-acceptable : {T : Table} {h g : Poly} → Reduces F O (S .division) N T most-terms h (left g) → Acceptable F O N h → Acceptable F O N g × Irreducible F O (S .division) N T g
@@ -130,7 +117,7 @@ module _ (S : Setting) (W : Lawful S) where
       let l : times one (exponents t) ≡ exponents t = ap (λ m. m .0) (Monomials.unit-mul (exponents t, w .over t (List·Memᴰ·head refl) .1)) in
       let r : Row S n = record {
         acceptable = record {
-          written = written-scaled (F .inv (t .coefficient)) one (subst (λ x. 0 < x) (d .is) (d .pos)) b Monomials.in-one (t ∷ g) w;
+          written = WrittenLists.written-scaled ground (F .inv (t .coefficient)) one (subst (λ x. 0 < x) (d .is) (d .pos)) b Monomials.in-one (t ∷ g) w;
           fits = fits-scaled-one (F .inv (t .coefficient)) (t ∷ g) (w .over) (a .fits);
           short = subst (λ k. k ≤ most-terms) (sym (Values.length-scaled F (F .inv (t .coefficient)) one (t ∷ g))) (a .short);
         };
@@ -154,11 +141,6 @@ module _ (S : Setting) (W : Lawful S) where
       go l j k e (inr x) (inl y) = absurd (fresh (s .rows) t g i k (y .0) (ap leading (sym (y .1)) ∙ sym e ∙ ap leading (x .1) ∙ l))
       go l j k e (inr x) (inr y) = x .0 ∙ sym (y .0)
 
-  pub row-mem : (T : Table) (i : ℕ) → i < length T → List·Memᴰ (getD T i []) T
-  row-mem [] i h = absurd (omega arith)
-  row-mem (p ∷ T) zero h = List·Memᴰ·head refl
-  row-mem (p ∷ T) (suc i) h = List·Memᴰ·tail (row-mem T i (omega arith))
-
   -- a row, or nothing where there is none
   rows-written : (T : Table) → ((p : Poly) → List·Memᴰ p T → Row S p) → (i : ℕ) → Written F O N (getD T i [])
   rows-written [] f i = record { over = λ t h. elim h [ ]; nonzero = λ t h. elim h [ ]; falling = none }
@@ -169,7 +151,7 @@ module _ (S : Setting) (W : Lawful S) where
   row-written {s} I k = rows-written (s .rows) (I .each) (k - 1)
 
   pub row-at : {s : State} → Sound S s → (k : ℕ) → Within k (length (s .rows)) → Row S (row (s .rows) k)
-  row-at {s} I k w = I .each (row (s .rows) k) (row-mem (s .rows) (k - 1) (omega arith))
+  row-at {s} I k w = I .each (row (s .rows) k) (Lists.entry-member [] (s .rows) (k - 1) (omega arith))
 
   -- the terms of a row but the first
   pub tail-written : {s : State} → Sound S s → (k : ℕ) → Written F O N (drop 1 (row (s .rows) k))
@@ -191,7 +173,7 @@ module _ (S : Setting) (W : Lawful S) where
       go (t ∷ p) w = w .over t (List·Memᴰ·head refl) .1 .wide
 
   pub prolonged-written : {s : State} → Sound S s → (k v : ℕ) → Within v N → Written F O N (prolonged S s k v)
-  prolonged-written {s} I k v w = written-scaled 1 (variable v) (omega arith) (L .differ) (Monomials.in-variable w) (row (s .rows) k) (row-written I k)
+  prolonged-written {s} I k v w = WrittenLists.written-scaled ground 1 (variable v) (omega arith) (L .differ) (Monomials.in-variable w) (row (s .rows) k) (row-written I k)
 
   pub steps : {s s′ : State} {a : Answer} → Sound S s → Steps S s a s′ → Sound S s′
   steps I (step-closed c) = I
@@ -240,9 +222,6 @@ module _ (S : Setting) (W : Lawful S) where
   sound (judged a h) = sound a
 
   -- a selection rises from each to every later one
-  pub under-asym : (u m : List ℕ) → Wide u → Wide m → Under O u m → Under O m u → ⊥
-  under-asym u m a b h k = let z : Less ≡ Same = sym (W .order .transitive u m u a b a h k) ∙ W .order .equal u u a a .1 refl in let y : _≡_ {A = ℕ} 0 1 = cc in omega arith
-
   pub rising-up : {s : State} (I : Sound S s) {ks : List ℕ} → Rising S s ks → Lists.Up (λ j k. Under O (leading (row (s .rows) j)) (leading (row (s .rows) k))) ks
   rising-up I rising-none = Lists.up-nil
   rising-up I rising-one = Lists.up-cons (λ b h. elim h [ ]) Lists.up-nil

@@ -26,6 +26,8 @@ use Rattle.involutive.proofs.Monomials
 use Rattle.involutive.proofs.Monomials.{Mono}
 use Rattle.involutive.proofs.Typing
 use Rattle.involutive.proofs.Typing.{Ground, ground-of, Code, base, Beneath}
+use Rattle.involutive.proofs.WrittenLists
+use Rattle.involutive.proofs.Lists
 
 module _ (S : Setting) (W : Lawful S) where
   abbrev ground : Ground
@@ -78,10 +80,10 @@ module _ (S : Setting) (W : Lawful S) where
   sorted-parts (Algebra.more-sorted n b s) = (b, s, n)
 
   pub monic-one : {p : Typed} → Monic p → Algebra.at B p (lead p) ≡ B .𝟙
-  monic-one m = rw (m .is) (Algebra.at-top B (Beneath N O) (Typing.line ground) (m .head) (m .tail) (sorted-parts (m .sorted) .0) ∙ m .one)
+  monic-one m = rw (m .is) (Algebra.at-top B (Beneath N O) (WrittenLists.line ground) (m .head) (m .tail) (sorted-parts (m .sorted) .0) ∙ m .one)
 
   pub monic-top : {p : Typed} (u : Mono N) → Monic p → Beneath N O (lead p) u → Algebra.at B p u ≡ B .𝟘
-  monic-top {p} u m = rw (m .is) (λ h. Algebra.at-below B (Beneath N O) (Typing.line ground) (Algebra.more-below h (Algebra.below-up B (Beneath N O) (Typing.line ground) h (sorted-parts (m .sorted) .0))))
+  monic-top {p} u m = rw (m .is) (λ h. Algebra.at-below B (Beneath N O) (WrittenLists.line ground) (Algebra.more-below h (Algebra.below-up B (Beneath N O) (WrittenLists.line ground) h (sorted-parts (m .sorted) .0))))
 
   abbrev pub nth : List Typed → ℕ → Typed
   nth T k = getD T (k - 1) []
@@ -92,12 +94,12 @@ module _ (S : Setting) (W : Lawful S) where
 
   typed-monic : (p : Typed) → Row S (raw p) → Monic p
   typed-monic [] r = absurd (omega (arith, r .monic))
-  typed-monic (u ∷ p) r = record { head = u; tail = p; is = refl; one = Typing.code-eq (r .monic); sorted = Typing.written-sorted ground (u ∷ p) (r .acceptable .written) }
+  typed-monic (u ∷ p) r = record { head = u; tail = p; is = refl; one = Typing.code-eq (r .monic); sorted = WrittenLists.written-sorted ground (u ∷ p) (r .acceptable .written) }
 
   -- the rows of a sound sheet are such a table
   pub typed-good : (T : List Typed) (m : ℕ → ℕ → Bool) → Sound S (record { rows = map raw T; marks = m }) → Good T
   typed-good T m I = record {
-    monic = λ p h. typed-monic p (I .each (raw p) (Typing.mem-raw ground T h));
+    monic = λ p h. typed-monic p (I .each (raw p) (Lists.member-map raw T h));
     once = λ j k w v e. I .once j k (rw (length-map T raw) w) (rw (length-map T raw) v) (led j ∙ ap (λ x. x .0) e ∙ sym (led k));
   }
     where
@@ -157,7 +159,7 @@ module _ (S : Setting) (W : Lawful S) where
     unique j k a b m n e = row-eq (E .no-two U distinct (Monomials.mul a (lead (nth T (j .0))) .0) (Monomials.mul a (lead (nth T (j .0))) .1 .wide) (j .0) (k .0) (involutive j a m) (subst (λ x. Involutive D U (k .0) (x .0)) (sym e) (involutive k b n)))
 
     pub monic-at : (k : R) → Monic (nth T (k .0))
-    monic-at k = G .monic (nth T (k .0)) (Typing.row-member ground T (k .0 - 1) (omega arith))
+    monic-at k = G .monic (nth T (k .0)) (Lists.entry-member [] T (k .0 - 1) (omega arith))
 
     pub under-one : (m : Mono N) → Dec (m ≡ Monomials.unit) → (m ≡ Monomials.unit) ⊎ Beneath N O Monomials.unit m
     under-one m (yes e) = inl e
@@ -166,9 +168,9 @@ module _ (S : Setting) (W : Lawful S) where
     abbrev pub chart : Sums.Chart B
     chart = record {
       _≺_ = Beneath N O;
-      ≺-trans = Typing.under-trans ground;
-      ≺-irr = Typing.under-irr ground;
-      ≺-tri = Typing.under-tri ground;
+      ≺-trans = WrittenLists.under-trans ground;
+      ≺-irr = WrittenLists.under-irr ground;
+      ≺-tri = WrittenLists.under-tri ground;
       ≺-mul = λ a u m h. Q .factor (a .0) (u .0) (m .0) (a .1 .wide) (u .1 .wide) (m .1 .wide) ∙ h;
       ≺-wf = λ m. InvImage·accessible (λ m. (m .0, m .1 .wide)) (Q .falls .apply (m .0, m .1 .wide));
       ≺-one = λ m. under-one m (Monomials.same? m Monomials.unit);
@@ -216,8 +218,8 @@ module _ (S : Setting) (W : Lawful S) where
     under-bound : (H : Mono N) (p : Typed) (u : Code F × Mono N) → Sorted p → Bounded H p → List·Memᴰ u p → Sums.Upto B chart H (u .1)
     unfolding Bounded
     under-bound H p u s b h =
-        let r = Algebra.sorted-at B (Beneath N O) (Typing.line ground) u s h in
-        ⊎-elim (λ l. inl l) (⊎-elim (λ e. inr e) (λ l. absurd (r .1 (sym (r .0) ∙ b (u .1) l)))) (Typing.under-tri ground (u .1) H)
+        let r = Algebra.sorted-at B (Beneath N O) (WrittenLists.line ground) u s h in
+        ⊎-elim (λ l. inl l) (⊎-elim (λ e. inr e) (λ l. absurd (r .1 (sym (r .0) ∙ b (u .1) l)))) (WrittenLists.under-tri ground (u .1) H)
 
     reduced : {room : ℕ} {h : Poly} {o : Outcome} → Reduces F O D N (map raw T) room h o → (H : Mono N) (p : Typed) → raw p ≡ h → Sorted p → Bounded H p → (g : Poly) → o ≡ left g → Reduced H p g
     unfolding Bounded divisor
@@ -232,9 +234,9 @@ module _ (S : Setting) (W : Lawful S) where
         let v = divisor (u .0 .1) k (subst (λ y. Involutive D U k (exponents y)) (u .2) (r .divisor)) in
         let w : Algebra.at B (q .0) ≡ Algebra._⊕_ B (Algebra.at B p) (Algebra.⊖ B (Algebra.shift B (u .0 .0) (v .a) (Algebra.at B (nth T k)))) = Typing.action-value ground D T p (q .0) (u .0) k (rw (e, q .1, ← (u .2)) x) in
         let n : Sums.Upto B chart H (Monomials.mul (v .a) (lead (nth T k))) = subst (Sums.Upto B chart H) (sym (v .height)) (under-bound H p (u .0) s b (u .1)) in
-        let above : (m : Mono N) → Beneath N O H m → Beneath N O (Monomials.mul (v .a) (lead (nth T k))) m = λ m y. ⊎-elim (λ z. Typing.under-trans ground (Monomials.mul (v .a) (lead (nth T k))) H m z y) (λ z. subst (λ x. Beneath N O x m) (sym z) y) n in
+        let above : (m : Mono N) → Beneath N O H m → Beneath N O (Monomials.mul (v .a) (lead (nth T k))) m = λ m y. ⊎-elim (λ z. WrittenLists.under-trans ground (Monomials.mul (v .a) (lead (nth T k))) H m z y) (λ z. subst (λ x. Beneath N O x m) (sym z) y) n in
         let b′ : Bounded H (q .0) = λ m y. ap (λ z. z m) w ∙ Algebra.minus-off B (Algebra.at B p) (Algebra.shift B (u .0 .0) (v .a) (Algebra.at B (nth T k))) m (b m y) (Sums.term-above B chart (u .0 .0) (v .a) (v .k) m (above m y)) in
-        let z = reduced more H (q .0) (q .1) (Typing.written-sorted ground (q .0) (rw (q .1) (x .written))) b′ g d in
+        let z = reduced more H (q .0) (q .1) (WrittenLists.written-sorted ground (q .0) (rw (q .1) (x .written))) b′ g d in
         record {
           poly = z .poly;
           is = z .is;
@@ -256,7 +258,7 @@ module _ (S : Setting) (W : Lawful S) where
 
     sum-span : {X : Mono N → Type 0} {v : Algebra.V B} → Sums.Sum B chart X v → Span B T v
     sum-span (Sums.nil e) = Algebra.none e
-    sum-span (Sums.add c k a m q s e) = Algebra.more c a (Typing.row-member ground T (k .0 - 1) (omega arith)) (sum-span s) e
+    sum-span (Sums.add c k a m q s e) = Algebra.more c a (Lists.entry-member [] T (k .0 - 1) (omega arith)) (sum-span s) e
 
     -- what is left of p; where p's terms stand below a monomial, so do its own
     pub record LeftOver (p : Typed) (g : Poly) : Type 0 where
@@ -277,9 +279,9 @@ module _ (S : Setting) (W : Lawful S) where
         record { poly = []; is = e; sorted = Algebra.none-sorted; irreducible = subst (Irreducible F O D N (map raw T)) e (λ t h. elim h [ ]); span = Algebra.none (Algebra.⊕-⊖ B (Algebra.at B [])); below = λ h b. b }
     left-over (u ∷ p) {g} r s =
         let H : Mono N = u .1 in
-        let above : Bounded H (u ∷ p) = λ m y. Algebra.at-below B (Beneath N O) (Typing.line ground) (Algebra.more-below y (Algebra.below-up B (Beneath N O) (Typing.line ground) y (sorted-parts s .0))) in
+        let above : Bounded H (u ∷ p) = λ m y. Algebra.at-below B (Beneath N O) (WrittenLists.line ground) (Algebra.more-below y (Algebra.below-up B (Beneath N O) (WrittenLists.line ground) y (sorted-parts s .0))) in
         let z = reduced r H (u ∷ p) refl s above g refl in
-        let still : Bounded H (z .poly) = λ m y. sym (Algebra.at-same B (Algebra.at B (u ∷ p)) (Algebra.at B (z .poly)) m (Sums.sum-above B chart (Sums.sum-map B chart (λ x. ⊎-elim (λ q. Typing.under-trans ground x H m q y) (λ q. subst (λ k. Beneath N O k m) (sym q) y)) (z .sum)))) ∙ above m y in
+        let still : Bounded H (z .poly) = λ m y. sym (Algebra.at-same B (Algebra.at B (u ∷ p)) (Algebra.at B (z .poly)) m (Sums.sum-above B chart (Sums.sum-map B chart (λ x. ⊎-elim (λ q. WrittenLists.under-trans ground x H m q y) (λ q. subst (λ k. Beneath N O k m) (sym q) y)) (z .sum)))) ∙ above m y in
         record {
           poly = z .poly;
           is = z .is;
@@ -287,7 +289,7 @@ module _ (S : Setting) (W : Lawful S) where
           irreducible = z .irreducible;
           span = sum-span (z .sum);
           below = λ h b. let l = first-below b in
-              below-all h (z .poly) (λ t k. ⊎-elim (λ q. Typing.under-trans ground (t .1) H h q l) (λ q. subst (λ x. Beneath N O x h) (sym q) l) (under-bound H (z .poly) t (z .sorted) still k));
+              below-all h (z .poly) (λ t k. ⊎-elim (λ q. WrittenLists.under-trans ground (t .1) H h q l) (λ q. subst (λ x. Beneath N O x h) (sym q) l) (under-bound H (z .poly) t (z .sorted) still k));
         }
 
     -- a row whose terms but the first are reduced

@@ -24,6 +24,8 @@ use Rattle.involutive.proofs.Ideals
 use Rattle.involutive.proofs.Soundness
 use Rattle.involutive.specs.Sound.{Row, Sound}
 use Rattle.involutive.proofs.Sheets
+use Rattle.involutive.proofs.WrittenLists
+use Rattle.involutive.proofs.Lists
 
 module _ (S : Setting) (W : Lawful S) where
   abbrev ground : Ground
@@ -59,8 +61,8 @@ module _ (S : Setting) (W : Lawful S) where
       wide-in = record { wide = w; absent = λ v l. beyond m (v - 1) (omega (arith, w)) }
 
       go : Dec (_≡_ {A = Monomials.Mono 6} (m, wide-in) Monomials.unit) → ⊥
-      go (yes e) = let x : Under O one one = subst (λ y. Under O (y .0) one) e h in Soundness.under-asym S W one one refl refl x x
-      go (no n) = Soundness.under-asym S W m one w refl h (W .order .least m w (λ e. n (Monomials.mono-eq e)))
+      go (yes e) = let x : Under O one one = subst (λ y. Under O (y .0) one) e h in WrittenLists.under-asym (W .order) one one refl refl x x
+      go (no n) = WrittenLists.under-asym (W .order) m one w refl h (W .order .least m w (λ e. n (Monomials.mono-eq e)))
 
   -- a monic polynomial whose leading monomial is 1 is 1
   monic-unit : (p : Poly) → Row S p → leading p ≡ one → p ≡ unit
@@ -81,7 +83,7 @@ module _ (S : Setting) (W : Lawful S) where
         let w : Within (r .0) (length (s .rows)) = rw (length-map (s .rows) leading) at (r .1 .within) in
         record { k = r .0; within = w; leads = divides-one (leading (row (s .rows) (r .0))) (Soundness.row-wide S W I (r .0)) (subst (λ x. Divides x one) (Soundness.lead-at (s .rows) (r .0 - 1) (omega arith)) (r .1 .divides)) },
     λ u.
-        let h : List·Memᴰ (row (s .rows) (u .k)) (s .rows) = Soundness.row-mem S W (s .rows) (u .k - 1) (omega (arith, u .within .0, u .within .1)) in
+        let h : List·Memᴰ (row (s .rows) (u .k)) (s .rows) = Lists.entry-member [] (s .rows) (u .k - 1) (omega (arith, u .within .0, u .within .1)) in
         subst (Member F N (s .rows)) (monic-unit (row (s .rows) (u .k)) (I .each _ h) (u .leads)) (Ideals.member-generator ground (s .rows) (λ p k. I .each p k .acceptable .written .over) (row (s .rows) (u .k)) h),
   )
 
