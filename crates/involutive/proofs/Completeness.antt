@@ -1,4 +1,4 @@
--- Complete tables.
+-- The main theorem, put together.
 use Rattle.involutive.specs.Complete.{Complete-tables}
 use Rattle.involutive.proofs.KeptIdeal
 use Rattle.involutive.proofs.Remainders

@@ -50,7 +50,6 @@ module _ {A : Type 0} where
   pub no-some : {B : Type 0} {a : A} → None ≡ Some a → B
   no-some e = let z : _≡_ {A = ℕ} 0 1 = cc in absurd (omega arith)
 
--- small proofs
 abbrev pub passes : (b : Bool) → Option (b ≡ true)
 passes true = Some refl
 passes false = None
@@ -130,7 +129,6 @@ abbrev pub each? : {A : Type 0} {P : A → Type 0} → ((x : A) → Option (P x)
 each? f [] = Some (λ x h. elim h [ ])
 each? {P} f (x ∷ l) = f x >>= λ p. each? f l >>= λ h. Some (one-more P x l p h)
 
--- divisors
 pub entry-more : (d e : ℕ) (u m : List ℕ) → d ≤ e → ((i : ℕ) → getD u i 0 ≤ getD m i 0) → (i : ℕ) → getD (d ∷ u) i 0 ≤ getD (e ∷ m) i 0
 entry-more d e u m p h zero = p
 entry-more d e u m p h (suc i) = h i
@@ -168,7 +166,6 @@ module _ (D : Split) (U : List (List ℕ)) where
   abbrev pub no-divisor? : (m : List ℕ) → Option ((k : ℕ) → Involutive D U k m → ⊥)
   no-divisor? m = all? (λ k. not-involutive? k m) (length U) >>= λ h. Some (λ k i. h k (i .within) i)
 
--- polynomials
 module _ (F : FieldMeaning) (f g : Poly) where
   abbrev Agree : Term → Type 0
   Agree t = Value.at F f (exponents t) ≡ Value.at F g (exponents t)

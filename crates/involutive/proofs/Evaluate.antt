@@ -44,7 +44,6 @@ module _ (F : FieldMeaning) (O : Compare) where
   tidy [] = []
   tidy (t ∷ f) = insert t (tidy f)
 
--- reducing
 module _ (S : Setting) (R : Table) where
   abbrev F : FieldMeaning
   F = S .field
@@ -94,7 +93,7 @@ module _ (S : Setting) (R : Table) where
       each? (spared? (x .t)) h >>= λ s. fits? f >>= λ w. difference? h f g >>= λ d. le? (length g) room >>= λ l. reduce room fuel g >>= λ r.
       Some (r .0, acts (record { stands = x .stands; divisor = x .divisor; greatest = s }) w d l (r .1))
 
--- the calls
+-- more actions than any case below takes
 abbrev pub fuel : ℕ
 fuel = 100
 
@@ -166,7 +165,6 @@ module _ (S : Setting) (s : State) where
       (choose >>= λ c. fits? (prolonged S s (c .0) (c .1)) >>= λ f. reduce S (s .rows) most-terms fuel (prolonged S s (c .0) (c .1)) >>= λ r. step-left (c .0) (c .1) (c .2) f (r .0) (r .1))
       or λ u. closed? >>= λ c. Some (record { answer = Answers.closed-answer; state = s; steps = Answers.step-closed c })
 
-  -- the fair copy
   abbrev lead : ℕ → List ℕ
   lead k = leading (row (s .rows) k)
 

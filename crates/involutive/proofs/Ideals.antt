@@ -1,4 +1,4 @@
--- The polynomial and ideal layer, stated over specs/ alone.
+-- Sums, multiples and members of ideals, over lists of terms.
 use mathlib.Core.Path.{_≡_, refl, sym, _∙_, ap, subst, subst₂}
 use mathlib.Core.List.{List, [], _∷_, _++_, map, List·Memᴰ, List·Memᴰ·append-cases, Memᴰ·append-left, Memᴰ·append-right}
 use mathlib.Core.Logic.{⊎-elim}
@@ -79,7 +79,6 @@ module _ (ground : Ground) where
   at-negated = each _ (λ p m w.
       rw (← (Typing.raw-negated ground p), Typing.raw-at ground (Algebra.negated B p) (m, w), Typing.raw-at ground p (m, w), Algebra.at-negated B p) (Typing.raw-neg ground (Algebra.at B p) (m, w)))
 
-  -- Equal
   to : {f g : Poly} (p q : Typed) → raw p ≡ f → raw q ≡ g → Algebra.at B p ≡ Algebra.at B q → Equal F f g
   to p q e e′ h = rw (← e, ← e′) (Typing.to-equal ground p q h)
 
@@ -94,7 +93,6 @@ module _ (ground : Ground) where
   pub equal-minus : (f : Poly) → Over F N f → (f′ : Poly) → Over F N f′ → (g : Poly) → Over F N g → (g′ : Poly) → Over F N g′ → Equal F f f′ → Equal F g g′ → Equal F (minus F f g) (minus F f′ g′)
   equal-minus f o f′ o′ g p g′ p′ e d = equal-plus f o f′ o′ (negated F g) (over-negated g p) (negated F g′) (over-negated g′ p′) e (equal-negated g p g′ p′ d)
 
-  -- Member
   pub member-equal : {gs : List Poly} {f g : Poly} → Equal F g f → Member F N gs f → Member F N gs g
   member-equal e h = record { multipliers = h .multipliers; each = h .each; over = h .over; sum = λ m. e m ∙ h .sum m }
 

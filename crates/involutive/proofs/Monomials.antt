@@ -67,7 +67,7 @@ zeros zero i = refl
 zeros (suc n) zero = refl
 zeros (suc n) (suc i) = zeros n i
 
--- in the variables 1 to n
+-- a monomial in the variables 1 to n, with the proof that it is one
 abbrev pub Mono : ℕ → Type 0
 Mono n = (m : List ℕ) × In n m
 

@@ -123,7 +123,7 @@ module _ (S : Setting) (W : Lawful S) where
       (subst (λ v. Span B T (Algebra._⊕_ B (Algebra.at B p) (Algebra.⊖ B v))) a (Ideals.to-span ground T p (q ++ r) (subst (λ x. Member F N (map raw T) (Value.minus F (raw p) x)) (sym (Typing.raw-++ ground q r)) m))) in
       subst (Value.Equal F (raw p)) (Typing.raw-++ ground q r) (Typing.to-equal ground p (q ++ r) (e ∙ sym a))))))
 
-  -- copies
+  -- the copy of a row, as a typed polynomial
   abbrev Tidied : (T : List Typed) (m : ℕ → ℕ → Bool) → Sound S (st (map raw T) m) → (k : ℕ) → Within k (length T) → Poly → Type 0
   Tidied T m I k w f = Tables.Tidied S W T (Tables.typed-good S W T m I) (k, w) f
 

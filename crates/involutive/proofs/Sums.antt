@@ -173,7 +173,7 @@ module _ (B : Base) where
     pub raise : (a m : M) → (m ≡ a · m) ⊎ (m ≺ a · m)
     raise a m = ⊎-elim (λ e. inl (sym (one· m) ∙ ap (λ x. x · m) (sym e))) (λ l. inr (subst₂ _≺_ (·-comm m one ∙ one· m) (·-comm m a) (≺-mul m one a l))) (≺-one a)
 
-    -- what generates the rows
+    -- a value of G that leads as row k does, and differs from it by a sum
     pub record Start (G : V → Type 0) (k : R) : Type 0 where
       pub value : V
       pub inside : G value
@@ -202,7 +202,7 @@ module _ (B : Base) where
       pub generated : ((k : R) → ((j : R) → lead j ≺ lead k → G (row j)) → Start G k) → (k : R) → G (row k)
       generated start k = generate start (lead k) (≺-wf _) k refl
 
-    -- a closed table
+    -- a multiple of row k that is not involutive: an involutive one of the same height and lower ones
     pub record Prolongation (Next : R → R → Type 0) (k : R) (a : M) : Type 0 where
       pub x : M
       pub rest : M

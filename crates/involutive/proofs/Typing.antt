@@ -177,7 +177,6 @@ module _ (ground : Ground) where
       let r = typeds fs (λ a h. o a (List·Memᴰ·tail h)) in
       (p .0 ∷ r .0, cc (p .1, r .1))
 
-  -- one action
   pub raw-row : (T : List Typed) (i : ℕ) → getD (map raw T) i [] ≡ raw (getD T i [])
   raw-row [] i = refl
   raw-row (p ∷ T) zero = refl

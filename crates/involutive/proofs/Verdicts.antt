@@ -1,4 +1,4 @@
--- The verdict of a closed sheet: 1 is a member where a row's leading monomial is 1.
+-- The verdict of a closed sheet: 1 is a member exactly when a row's leading monomial is 1.
 use mathlib.Core.Path.{_≡_, refl, subst}
 use mathlib.Core.List.{List, [], _∷_, List·Memᴰ, List·Memᴰ·head, List·Memᴰ·tail, List·Memᴰ·cases-cons}
 use mathlib.Core.Logic.{⊎-elim, _↔_}

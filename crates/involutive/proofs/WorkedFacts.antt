@@ -37,7 +37,6 @@ module _ (s : State) where
   abbrev pub no-unit? : Option ((k : ℕ) → Within k (length (s .rows)) → leading (row (s .rows) k) ≡ one → ⊥)
   no-unit? = all? (λ k. fails (same (leading (row (s .rows) k)) one) >>= λ f. Some (not-one _ f)) (length (s .rows))
 
--- a sheet
 module _ (S : Setting) (W : Lawful S) (s : State) (I : Sound S s) (c : Closed S s) where
   abbrev verdict? : (v : ℕ) → Option (Judges S s (verdict-answer v))
   verdict? zero = no-unit? s >>= λ h. Some (Verdicts.judges-none S W s I c h)
@@ -60,7 +59,6 @@ module _ (S : Setting) (W : Lawful S) (calls : List Call) (gs T fs : List Poly) 
       run S calls >>= λ x. same-polys? (x .accepted) gs >>= λ p. same-polys? (x .state .rows) T >>= λ q. fair-copy? S (x .state) >>= λ y. same-polys? (y .polys) fs >>= λ r.
       verdict? S W (x .state) (Soundness.sound S W (x .after)) (y .closed) v >>= λ j. Some (end x p q y r j)
 
--- the facts
 -- what no computation shows, that a setting keeps its laws: the verdict rests on it
 abbrev Laws : Fact → Type 0
 Laws (inverse F a b) = Unit {0}
@@ -95,7 +93,7 @@ every : (l : List Fact) → All Holds l → (f : Fact) → List·Memᴰ f l → 
 every [] h f m = elim m [ ]
 every (g ∷ l) h f m = ⊎-elim (λ e. subst Holds (sym e) (h .0)) (λ k. every l (h .1) f k) (List·Memᴰ·cases-cons m)
 
--- the one computation
+-- all facts by one computation
 computed : T (is-some (prove-all facts laws))
 computed = tt
 
