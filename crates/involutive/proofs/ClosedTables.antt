@@ -102,8 +102,11 @@ module _ (S : Setting) (W : Lawful S) where
     abbrev NextRow : R → R → Type 0
     NextRow k j = Next D U (k .0) (j .0)
 
-    -- the table of a closed sheet: each prolongation by a variable that is not multiplicative reduces to nothing
-    module _ (closed : (k v : ℕ) → Within k (length T) → Within v N → D U k v ≡ Some false → (room : ℕ) × Reduces F O D N (map raw T) room (Value.scaled F 1 (variable v) (row (map raw T) k)) (left [])) where
+    -- each prolongation by a variable that is not multiplicative reduces to nothing
+    abbrev pub Closes : Type 0
+    Closes = (k v : ℕ) → Within k (length T) → Within v N → D U k v ≡ Some false → (room : ℕ) × Reduces F O D N (map raw T) room (Value.scaled F 1 (variable v) (row (map raw T) k)) (left [])
+
+    module _ (closed : Closes) where
       not-zero : B .𝟙 ≡ B .𝟘 → ⊥
       not-zero e = let z : _≡_ {A = ℕ} 1 0 = ap (λ x. x .0) e in omega arith
 
