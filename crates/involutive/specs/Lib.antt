@@ -1,0 +1,11 @@
+pub mod Value
+pub mod Ideal
+pub mod Reduction
+pub mod Sheet
+pub mod Answers
+pub mod Log
+pub mod Sound
+pub mod Once
+pub mod Complete
+pub mod Facts
+pub mod Examples
