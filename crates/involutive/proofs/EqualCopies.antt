@@ -10,8 +10,8 @@ use Rattle.field.specs.Field.{FieldMeaning, FieldLaws}
 use Rattle.monomial.specs.Monomial.{In, Wide, times, quotient, Divides}
 use Rattle.monomial.specs.Order.{Compare, OrderLaws, Under}
 use Rattle.monomial.specs.Division.{Split, DivisionLaws, Within, Involutive}
-use Rattle.polynomial.specs.Polynomial.{Poly, Over, term, exponents, Written}
-use Rattle.involutive.specs.Value.{leading, scaled, minus}
+use Rattle.polynomial.specs.Polynomial.{Poly, Over, term, exponents, Written, leading}
+use Rattle.involutive.specs.Value.{scaled, minus}
 use Rattle.involutive.specs.Ideal.{Member, SameIdeal}
 use Rattle.involutive.specs.Reduction.{row, leaders, Irreducible}
 use Rattle.involutive.specs.Sheet.{Setting, State, Closed, Lawful}

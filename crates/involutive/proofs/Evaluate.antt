@@ -16,8 +16,8 @@ use Rattle.field.specs.Field.{FieldMeaning}
 use Rattle.monomial.specs.Monomial.{Divides}
 use Rattle.monomial.specs.Order.{Compare, Under}
 use Rattle.monomial.specs.Division.{Split, Involutive}
-use Rattle.polynomial.specs.Polynomial.{Poly, term, exponents}
-use Rattle.involutive.specs.Value.{minus, leading}
+use Rattle.polynomial.specs.Polynomial.{Poly, term, exponents, leading}
+use Rattle.involutive.specs.Value.{minus}
 use Rattle.involutive.specs.Reduction.{Table, row, leaders, left, Irreducible, multiple, Difference, Reduces, done, acts}
 use Rattle.polynomial.specs.Check.{Fits, most-terms}
 use Rattle.involutive.specs.Answers

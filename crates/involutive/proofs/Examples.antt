@@ -13,10 +13,10 @@ use Rattle.std.specs.declared.option.Option.the-variants.{Some, None}
 use Rattle.monomial.specs.Monomial.{one, same}
 use Rattle.monomial.specs.Division.{Split, DivisionLaws, Within, thomas}
 use Rattle.monomial.proofs.Divisions.{thomas-laws}
-use Rattle.polynomial.specs.Polynomial.{Poly, term}
+use Rattle.polynomial.specs.Polynomial.{Poly, term, leading}
 use Rattle.polynomial.specs.Check.{most-terms}
 use Rattle.polynomial.specs.Bytes.{copy-bytes}
-use Rattle.involutive.specs.Value.{leading, unit}
+use Rattle.involutive.specs.Value.{unit}
 use Rattle.involutive.specs.Ideal.{Member}
 use Rattle.involutive.specs.Sheet.{Setting, Lawful, State, Closed}
 use Rattle.involutive.specs.Answers.{first-fault, front, ReducesTo, remainder-written, copy-written}

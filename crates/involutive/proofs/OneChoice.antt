@@ -12,7 +12,7 @@ use Rattle.field.specs.Field.{FieldMeaning}
 use Rattle.monomial.specs.Monomial.{Wide, width, variable, times}
 use Rattle.monomial.specs.Order.{Compare, Under}
 use Rattle.monomial.specs.Division.{Within}
-use Rattle.involutive.specs.Value.{leading}
+use Rattle.polynomial.specs.Polynomial.{leading}
 use Rattle.involutive.specs.Reduction.{row}
 use Rattle.involutive.specs.Sheet.{Setting, State, Chosen, height, Lawful}
 use Rattle.involutive.specs.Answers.{Selection}

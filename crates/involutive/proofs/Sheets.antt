@@ -12,8 +12,7 @@ use Rattle.monomial.specs.Monomial.{Divides}
 use Rattle.monomial.specs.Order.{Compare}
 use Rattle.monomial.specs.Division.{Split, Within, Involutive, member}
 use Rattle.involutive.specs.Value
-use Rattle.polynomial.specs.Polynomial.{Poly, Over, exponents, Written}
-use Rattle.involutive.specs.Value.{leading}
+use Rattle.polynomial.specs.Polynomial.{Poly, Over, exponents, Written, leading}
 use Rattle.involutive.specs.Ideal.{Member, SameIdeal}
 use Rattle.involutive.specs.Reduction.{Table, row, leaders, left, Irreducible, Reduces}
 use Rattle.involutive.specs.Sheet.{Setting, State, Pair, Closed, Lawful}

@@ -15,8 +15,8 @@ use Rattle.field.specs.Field.{FieldMeaning, FieldLaws}
 use Rattle.monomial.specs.Monomial.{Wide, Bounded, variable, one, times, quotient}
 use Rattle.monomial.specs.Order.{Compare, Under}
 use Rattle.monomial.specs.Division.{Within, Distinct, member}
-use Rattle.polynomial.specs.Polynomial.{Poly, Over, term, exponents, Written, Falling, none, single, more}
-use Rattle.involutive.specs.Value.{scaled, leading}
+use Rattle.polynomial.specs.Polynomial.{Poly, Over, term, exponents, Written, Falling, none, single, more, leading}
+use Rattle.involutive.specs.Value.{scaled}
 use Rattle.involutive.specs.Reduction.{Table, row, leaders, Outcome, left, Irreducible, multiple, Reduces, done, wide, long, acts}
 use Rattle.involutive.specs.Sheet.{Setting, State, empty, most-rows, with-row, prolonged, Lawful}
 use Rattle.involutive.specs.Answers.{first-fault, ReducesTo, Adds, Steps, Answer, Rising, rising-none, rising-one, rising-more, add-faulty, add-stuck, add-zero, add-full, add-row, step-closed, step-wide, step-stuck, step-mark, step-full, step-row}

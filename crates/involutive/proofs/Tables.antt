@@ -15,6 +15,7 @@ use Rattle.monomial.specs.Order.{Compare, OrderLaws}
 use Rattle.monomial.specs.Division.{Split, DivisionLaws, Within, Distinct, Involutive, member}
 use Rattle.monomial.specs.Monomial.{width, exponent, variable, quotient, Divides}
 use Rattle.involutive.specs.Value
+use Rattle.polynomial.specs.Polynomial
 use Rattle.polynomial.specs.Polynomial.{Poly, term, exponents}
 use Rattle.involutive.specs.Sheet.{Setting, Lawful}
 use Rattle.involutive.specs.Sound.{Row, Sound}
@@ -103,10 +104,10 @@ module _ (S : Setting) (W : Lawful S) where
     once = λ j k w v e. I .once j k (rw (length-map T raw) w) (rw (length-map T raw) v) (led j ∙ ap (λ x. x .0) e ∙ sym (led k));
   }
     where
-      led : (k : ℕ) → Value.leading (row (map raw T) k) ≡ lead (getD T (k - 1) []) .0
-      led k = ap Value.leading (Typing.raw-row ground T (k - 1)) ∙ Typing.raw-lead ground (getD T (k - 1) [])
+      led : (k : ℕ) → Polynomial.leading (row (map raw T) k) ≡ lead (getD T (k - 1) []) .0
+      led k = ap Polynomial.leading (Typing.raw-row ground T (k - 1)) ∙ Typing.raw-lead ground (getD T (k - 1) [])
 
-  lead-at : (T : List Typed) (i : ℕ) → i < length T → getD (map Value.leading (map raw T)) i [] ≡ lead (getD T i []) .0
+  lead-at : (T : List Typed) (i : ℕ) → i < length T → getD (map Polynomial.leading (map raw T)) i [] ≡ lead (getD T i []) .0
   lead-at [] i h = absurd (omega arith)
   lead-at (p ∷ T) zero h = Typing.raw-lead ground p
   lead-at (p ∷ T) (suc i) h = lead-at T i (omega arith)

@@ -12,6 +12,7 @@ use Rattle.polynomial.specs.declared.term.Term.{Term}
 use Rattle.field.specs.Field.{FieldMeaning, FieldLaws}
 use Rattle.monomial.specs.Monomial.{In}
 use Rattle.involutive.specs.Value
+use Rattle.polynomial.specs.Polynomial
 use Rattle.polynomial.specs.Polynomial.{Poly, term, exponents, Over}
 use Rattle.involutive.specs.Value.{Equal}
 use Rattle.monomial.specs.Order.{Compare, OrderLaws, Under}
@@ -186,7 +187,7 @@ module _ (ground : Ground) where
   lead [] = Monomials.unit
   lead (t ∷ f) = t .1
 
-  pub raw-lead : (p : Typed) → Value.leading (raw p) ≡ lead p .0
+  pub raw-lead : (p : Typed) → Polynomial.leading (raw p) ≡ lead p .0
   raw-lead [] = refl
   raw-lead (t ∷ f) = refl
 

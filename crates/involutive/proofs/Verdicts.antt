@@ -10,8 +10,8 @@ use Rattle.field.specs.Field.{FieldMeaning, FieldLaws}
 use Rattle.monomial.specs.Monomial.{In, Wide, one, Divides}
 use Rattle.monomial.specs.Order.{Compare, Under}
 use Rattle.monomial.specs.Division.{Within}
-use Rattle.polynomial.specs.Polynomial.{Poly, term, exponents, Written, Falling, single, more}
-use Rattle.involutive.specs.Value.{leading, unit}
+use Rattle.polynomial.specs.Polynomial.{Poly, term, exponents, Written, Falling, single, more, leading}
+use Rattle.involutive.specs.Value.{unit}
 use Rattle.involutive.specs.Ideal.{Member}
 use Rattle.involutive.specs.Reduction.{row}
 use Rattle.involutive.specs.Sheet.{Setting, State, Closed, Lawful}

@@ -12,8 +12,7 @@ use Rattle.std.specs.declared.option.Option.{Option}
 use Rattle.std.specs.declared.option.Option.the-variants.{Some, None}
 use Rattle.monomial.specs.Monomial.{one, same}
 use Rattle.monomial.specs.Division.{Within}
-use Rattle.polynomial.specs.Polynomial.{Poly}
-use Rattle.involutive.specs.Value.{leading}
+use Rattle.polynomial.specs.Polynomial.{Poly, leading}
 use Rattle.involutive.specs.Reduction.{row}
 use Rattle.involutive.specs.Sheet.{Setting, State, Closed, Lawful}
 use Rattle.involutive.specs.Answers.{Copies, copies, Judges, verdict-answer, copy-written}

@@ -11,10 +11,10 @@ use Rattle.monomial.specs.Order.{Under}
 use Rattle.monomial.specs.Division.{Within}
 use Rattle.polynomial.specs.declared.term.Term.{Term}
 use Rattle.polynomial.specs.declared.refusal.Refusal.{Refusal as Fault}
-use Rattle.polynomial.specs.Polynomial.{Poly}
+use Rattle.polynomial.specs.Polynomial.{Poly, leading}
 use Rattle.polynomial.specs.Check.{Fits, fault, most-terms, number as fault-number, place as fault-place}
 use Rattle.polynomial.specs.Bytes.{copy-bytes}
-use Rattle.involutive.specs.Value.{leading, unit}
+use Rattle.involutive.specs.Value.{unit}
 use Rattle.involutive.specs.Ideal.{Member}
 use Rattle.involutive.specs.Reduction.{row, Refusal, refuse, Outcome, left, refused, Reduces}
 use Rattle.involutive.specs.Sheet.{Setting, State, most-rows, Closed, Chosen, prolonged, with-mark, with-row}

@@ -6,8 +6,8 @@ use Prim.Native.Nat.{ℕ}
 use lib.ListN.{take, length}
 use Rattle.monomial.specs.Monomial.{one}
 use Rattle.monomial.specs.Division.{Split, DivisionLaws, Within}
-use Rattle.polynomial.specs.Polynomial.{Poly}
-use Rattle.involutive.specs.Value.{Equal, plus, minus, product, leading, unit}
+use Rattle.polynomial.specs.Polynomial.{Poly, leading}
+use Rattle.involutive.specs.Value.{Equal, plus, minus, product, unit}
 use Rattle.involutive.specs.Ideal.{Member, SameIdeal}
 use Rattle.involutive.specs.Reduction.{row}
 use Rattle.involutive.specs.Sheet.{Setting, Lawful, State, Closed}

@@ -7,9 +7,9 @@ use Rattle.monomial.specs.Monomial.{quotient}
 use Rattle.monomial.specs.Order.{Compare, Under}
 use Rattle.monomial.specs.Division.{Split, Involutive}
 use Rattle.polynomial.specs.declared.term.Term.{Term}
-use Rattle.polynomial.specs.Polynomial.{Poly, Written, exponents}
+use Rattle.polynomial.specs.Polynomial.{Poly, Written, exponents, leading}
 use Rattle.polynomial.specs.Check.{Fits}
-use Rattle.involutive.specs.Value.{Equal, scaled, minus, leading}
+use Rattle.involutive.specs.Value.{Equal, scaled, minus}
 
 -- rows, numbered from 1
 abbrev pub Table : Type 0

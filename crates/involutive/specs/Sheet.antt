@@ -11,8 +11,8 @@ use Rattle.field.specs.Field.{FieldMeaning, FieldLaws}
 use Rattle.monomial.specs.Monomial.{width, one, variable, times}
 use Rattle.monomial.specs.Order.{Compare, OrderLaws, Under}
 use Rattle.monomial.specs.Division.{Split, DivisionLaws, Within}
-use Rattle.polynomial.specs.Polynomial.{Poly}
-use Rattle.involutive.specs.Value.{scaled, leading, leading-coefficient}
+use Rattle.polynomial.specs.Polynomial.{Poly, leading, leading-coefficient}
+use Rattle.involutive.specs.Value.{scaled}
 use Rattle.involutive.specs.Reduction.{Table, row, leaders}
 
 -- what a sheet is made of, once and for all

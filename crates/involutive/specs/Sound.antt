@@ -5,9 +5,8 @@ use mathlib.Core.List.{List, [], List·Memᴰ}
 use Prim.Native.Nat.{ℕ, _≤_}
 use lib.ListN.{length}
 use Rattle.monomial.specs.Division.{Within}
-use Rattle.polynomial.specs.Polynomial.{Poly}
+use Rattle.polynomial.specs.Polynomial.{Poly, leading, leading-coefficient}
 use Rattle.polynomial.specs.Check.{Acceptable, most-terms}
-use Rattle.involutive.specs.Value.{leading, leading-coefficient}
 use Rattle.involutive.specs.Reduction.{row, left}
 use Rattle.involutive.specs.Sheet.{Setting, Lawful, State, most-rows, Pair, prolonged}
 use Rattle.involutive.specs.Answers.{ReducesTo}

@@ -1,4 +1,4 @@
--- What a list of terms stands for: a coefficient at each monomial. Sums, multiples and products of such lists, and the leading term.
+-- What a list of terms stands for: a coefficient at each monomial. Sums, multiples and products of such lists.
 use mathlib.Core.Path.{_≡_}
 use mathlib.Core.Bool.{cond}
 use mathlib.Core.List.{List, [], _∷_, _++_}
@@ -34,16 +34,6 @@ minus F f g = f ++ negated F g
 abbrev pub product : FieldMeaning → Poly → Poly → Poly
 product F [] g = []
 product F (t ∷ f) g = scaled F (t .coefficient) (exponents t) g ++ product F f g
-
--- the monomial of the first term, and the monomial 1 where there is no term
-abbrev pub leading : Poly → List ℕ
-leading [] = one
-leading (t ∷ f) = exponents t
-
--- the coefficient of the first term, and 0 where there is no term
-abbrev pub leading-coefficient : Poly → ℕ
-leading-coefficient [] = 0
-leading-coefficient (t ∷ f) = t .coefficient
 
 -- the polynomial 1
 abbrev pub unit : Poly
