@@ -10,6 +10,7 @@ use Rattle.field.specs.Field.{FieldMeaning, FieldLaws}
 use Rattle.monomial.specs.Monomial.{In, Wide, times, quotient, Divides}
 use Rattle.monomial.specs.Order.{Compare, OrderLaws, Under}
 use Rattle.monomial.specs.Division.{Split, DivisionLaws, Within, Involutive}
+use Rattle.polynomial.specs.Reading.{Wides}
 use Rattle.polynomial.specs.Polynomial.{Poly, Over, term, exponents, Written, leading}
 use Rattle.involutive.specs.Value.{scaled, minus}
 use Rattle.involutive.specs.Ideal.{Member, SameIdeal}
@@ -233,7 +234,7 @@ module _ (S : Setting) (W : Lawful S) where
     rising : Lists.Up Lower (A .fs)
     rising = rise (Soundness.rising-up (set D) (lawful E) (A .sound) (A .selection .rising)) (A .copied) (in-rows A)
 
-    wides : (f : Poly) → List·Memᴰ f (A .fs) → Bytes.Wides f
+    wides : (f : Poly) → List·Memᴰ f (A .fs) → Wides f
     wides f h t m = let a = copy-from (set D) (A .s) (A .copied) f h in Sheets.fair (set D) (lawful E) (A .s) (A .sound) (a .k) (in-rows A (a .k) (a .stands)) (a .copy) .good .over t m .1 .wide
 
   same-copies : {D D′ : Split} {E : DivisionLaws D} {E′ : DivisionLaws D′} (A : Side D E) (C : Side D′ E′) → Inside A C → Inside C A → A .fs ≡ C .fs
