@@ -4,4 +4,5 @@
 // tell     the line of each answer
 // play     the commands after the making, one after the other
 pub mod command;
+mod play;
 mod tell;
