@@ -1,4 +1,5 @@
 pub mod Acting
+pub mod Makings
 pub mod Onces
 pub mod Playing
 pub mod Rooms

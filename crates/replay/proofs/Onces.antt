@@ -19,6 +19,7 @@ use Rattle.lines.specs.Line.{line}
 use Rattle.replay.specs.Words.{operand-bytes, answered, stepped, refused-line}
 use Rattle.replay.specs.Replay.{Stepping, Does, Runs, Command-at, Faulty, Making, granted, refused, making, Starts, Transcript}
 use Rattle.replay.proofs.Acting.{after-does}
+use Rattle.replay.proofs.Makings.{made-lawful}
 use Rattle.replay.proofs.Playing.{long}
 use Rattle.replay.proofs.Rooms.{remainder-line, row-line, copy-line}
 
@@ -168,22 +169,21 @@ starts-one L (Starts.is-made {S = S} r a) (Starts.is-made r′ a′) = joined re
 starts-at : {rest rest₂ ops ops₂ x : List ℕ} → rest₂ ≡ rest → ops₂ ≡ ops → Starts rest₂ (making ops₂) x → Starts rest (making ops) x
 starts-at {rest = rest} {ops₂ = ops₂} {x = x} p q r = subst (λ o. Starts rest (making o) x) q (subst (λ rest. Starts rest (making ops₂) x) p r)
 
--- a command file has one transcript at most, where every setting that can be made is lawful
-module _ (L : (ops : List ℕ) (S : Setting) → making ops ≡ granted S → Lawful S) where
-  pub transcript-one : {bs x x′ : List ℕ} → Transcript bs x → Transcript bs x′ → x ≡ x′
-  transcript-one Transcript.nothing Transcript.nothing = refl
-  transcript-one Transcript.nothing (Transcript.faulty f) = empty-faulty refl f
-  transcript-one Transcript.nothing (Transcript.not-a-sheet k p) = empty-not refl k
-  transcript-one Transcript.nothing (Transcript.starts k r) = empty-not refl k
-  transcript-one (Transcript.faulty f) Transcript.nothing = empty-faulty refl f
-  transcript-one (Transcript.faulty f) (Transcript.faulty f′) = let i = faulty-one f f′ in ap₂ (refused-line 0) (i .0) (i .1)
-  transcript-one (Transcript.faulty f) (Transcript.not-a-sheet k p) = faulty-not f k
-  transcript-one (Transcript.faulty f) (Transcript.starts k r) = faulty-not f k
-  transcript-one (Transcript.not-a-sheet k p) Transcript.nothing = empty-not refl k
-  transcript-one (Transcript.not-a-sheet k p) (Transcript.faulty f) = faulty-not f k
-  transcript-one (Transcript.not-a-sheet k p) (Transcript.not-a-sheet k′ q) = ap (λ b. refused-line 0 b 17) (sym (command-one k k′ .0))
-  transcript-one (Transcript.not-a-sheet k p) (Transcript.starts k′ r) = let e = command-one k k′ .0 in absurd (omega (arith, e, p))
-  transcript-one (Transcript.starts k r) Transcript.nothing = empty-not refl k
-  transcript-one (Transcript.starts k r) (Transcript.faulty f) = faulty-not f k
-  transcript-one (Transcript.starts k r) (Transcript.not-a-sheet k′ p) = let e = command-one k k′ .0 in absurd (omega (arith, e, p))
-  transcript-one (Transcript.starts {ops = ops} k r) (Transcript.starts k′ r′) = let c = command-one k k′ in starts-one (L ops) r (starts-at (c .2) (c .1) r′)
+-- a command file has one transcript at most
+pub transcript-one : {bs x x′ : List ℕ} → Transcript bs x → Transcript bs x′ → x ≡ x′
+transcript-one Transcript.nothing Transcript.nothing = refl
+transcript-one Transcript.nothing (Transcript.faulty f) = empty-faulty refl f
+transcript-one Transcript.nothing (Transcript.not-a-sheet k p) = empty-not refl k
+transcript-one Transcript.nothing (Transcript.starts k r) = empty-not refl k
+transcript-one (Transcript.faulty f) Transcript.nothing = empty-faulty refl f
+transcript-one (Transcript.faulty f) (Transcript.faulty f′) = let i = faulty-one f f′ in ap₂ (refused-line 0) (i .0) (i .1)
+transcript-one (Transcript.faulty f) (Transcript.not-a-sheet k p) = faulty-not f k
+transcript-one (Transcript.faulty f) (Transcript.starts k r) = faulty-not f k
+transcript-one (Transcript.not-a-sheet k p) Transcript.nothing = empty-not refl k
+transcript-one (Transcript.not-a-sheet k p) (Transcript.faulty f) = faulty-not f k
+transcript-one (Transcript.not-a-sheet k p) (Transcript.not-a-sheet k′ q) = ap (λ b. refused-line 0 b 17) (sym (command-one k k′ .0))
+transcript-one (Transcript.not-a-sheet k p) (Transcript.starts k′ r) = let e = command-one k k′ .0 in absurd (omega (arith, e, p))
+transcript-one (Transcript.starts k r) Transcript.nothing = empty-not refl k
+transcript-one (Transcript.starts k r) (Transcript.faulty f) = faulty-not f k
+transcript-one (Transcript.starts k r) (Transcript.not-a-sheet k′ p) = let e = command-one k k′ .0 in absurd (omega (arith, e, p))
+transcript-one (Transcript.starts {ops = ops} k r) (Transcript.starts k′ r′) = let c = command-one k k′ in starts-one (made-lawful ops) r (starts-at (c .2) (c .1) r′)
