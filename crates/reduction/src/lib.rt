@@ -1,0 +1,12 @@
+// Reducing a polynomial by a table of rows.
+//
+// buffer    room for the terms of a polynomial, taken once
+// table     a row of a table: its terms, its leading monomial and the variables that are multiplicative for it
+// refusal   why reducing is refused
+// search    the greatest term that has an involutive divisor, and that divisor
+// subtract  subtracting a multiple of a row
+// reduce    reducing until no term has a divisor
+pub mod buffer;
+pub mod refusal;
+pub mod search;
+pub mod table;
