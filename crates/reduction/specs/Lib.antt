@@ -1,2 +1,4 @@
 pub mod Table
 pub mod Search
+pub mod Subtraction
+pub mod Merging

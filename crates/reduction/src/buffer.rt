@@ -2,7 +2,7 @@
 ghost use mathlib.Core.Path.{_≡_};
 ghost use mathlib.Core.Bool.{Bool, cond};
 ghost use mathlib.Core.List.{List, [], _∷_, _++_};
-ghost use Prim.Native.Nat.{ℕ, _+_, _<_, _≤_};
+ghost use Prim.Native.Nat.{ℕ, _+_, _<_, _≤_, min};
 ghost use lib.Dec.{leb, ltb};
 ghost use lib.ListN.{length};
 ghost use Rattle.std.specs.Of.Vec.{vec-items, vec-len, vec-cap};
@@ -75,4 +75,11 @@ impl Buffer {
         let _ = self.terms.extend_from_slice(more);
         true
     }
+}
+
+// The room that there is of the room that is asked for.
+pub(crate) fn cap(room: usize) -> usize
+    ensures { λ r. ⌜ r ≡ min room most-terms ⌝ }
+{
+    if room < MOST_TERMS { room } else { MOST_TERMS }
 }

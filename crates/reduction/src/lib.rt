@@ -7,6 +7,8 @@
 // subtract  subtracting a multiple of a row
 // reduce    reducing until no term has a divisor
 pub mod buffer;
+mod merge;
 pub mod refusal;
 pub mod search;
+pub mod subtract;
 pub mod table;
