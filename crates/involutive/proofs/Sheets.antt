@@ -125,7 +125,7 @@ module _ (S : Setting) (W : Lawful S) where
       on-closed s I c (λ R. Irreducible F O D N R (raw p) → Irreducible F O D N R (raw q) → Irreducible F O D N R (raw r) → Member F N R (Value.minus F (raw p) (Value.plus (raw q) (raw r))) → Value.Equal F (raw p) (Value.plus (raw q) (raw r))) (λ T G d i j k m.
       let a = Algebra.at-++ B q r in
       let e = ClosedTables.sum-remainder S W T G d p q r i j k
-      (subst (λ v. Span B T (Algebra._⊕_ B (Algebra.at B p) (Algebra.⊖ B v))) a (Ideals.to-span ground T p (q ++ r) (subst (λ x. Member F N (map raw T) (Value.minus F (raw p) x)) (sym (Typing.raw-++ ground q r)) m))) in
+          (subst (λ v. Span B T (Algebra._⊕_ B (Algebra.at B p) (Algebra.⊖ B v))) a (Ideals.to-span ground T p (q ++ r) (subst (λ x. Member F N (map raw T) (Value.minus F (raw p) x)) (sym (Typing.raw-++ ground q r)) m))) in
       subst (Value.Equal F (raw p)) (Typing.raw-++ ground q r) (Typing.to-equal ground p (q ++ r) (e ∙ sym a))))))
 
   -- the copy of row k, as a typed polynomial

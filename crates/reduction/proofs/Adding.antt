@@ -30,7 +30,7 @@ double-cond : (b : Bool) (add : ℕ → ℕ → ℕ) (t s r x : ℕ) → add t (
 double-cond true add t s r x e = e
 double-cond false add t s r x e = refl
 
-gone-cond : (b : Bool) (add : ℕ → ℕ → ℕ) (t s x : ℕ) → add t (add s x) ≡ x → cond b (add t (cond b (add s x) x)) (cond b (add s x) x) ≡ x
+pub gone-cond : (b : Bool) (add : ℕ → ℕ → ℕ) (t s x : ℕ) → add t (add s x) ≡ x → cond b (add t (cond b (add s x) x)) (cond b (add s x) x) ≡ x
 gone-cond true add t s x e = e
 gone-cond false add t s x e = refl
 

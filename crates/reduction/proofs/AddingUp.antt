@@ -11,7 +11,7 @@ use Rattle.std.specs.Vec.{listOf}
 use Rattle.std.specs.declared.option.Option.{Option}
 use Rattle.std.specs.declared.option.Option.the-variants.{Some, None}
 use Rattle.std.proofs.shelf.Lists.{drop-more, drop-all}
-use Rattle.std.proofs.shelf.Tests.{leb-true, leb-false, ltb-true}
+use Rattle.std.proofs.shelf.Tests.{leb-true, leb-false, ltb-true, le-leb, cond-true}
 use Rattle.field.specs.Field.{FieldMeaning}
 use Rattle.monomial.specs.Order.{Compare}
 use Rattle.polynomial.specs.declared.term.Term.{Term}
@@ -25,6 +25,14 @@ part-fits out part out′ room e d = let k = leb-true (length out + length part)
 
 pub term-fits : (out : Poly) (x : Term) (out′ : Poly) (room : ℕ) → true ≡ ltb (length out) room → out′ ≡ out ++ x ∷ [] → length out′ ≤ room
 term-fits out x out′ room e d = let k = ltb-true (length out) room (sym e) in omega (arith, ap length d, length-append out (x ∷ []))
+
+pub extend-fits : (out part out′ : Poly) (room : ℕ) (b : Bool) → length out ≤ room → b ≡ leb (length out + length part) room → out′ ≡ cond b (out ++ part) out → length out′ ≤ room
+extend-fits out part out′ room true l e d = part-fits out part out′ room e d
+extend-fits out part out′ room false l e d = omega (arith, ap length d)
+
+-- where there is room for all
+pub extend-all : (out part out′ : Poly) (room : ℕ) (b : Bool) → length out + length part ≤ room → b ≡ leb (length out + length part) room → out′ ≡ cond b (out ++ part) out → out′ ≡ out ++ part
+extend-all out part out′ room b l e d = d ∙ cond-true b (out ++ part) out (e ∙ le-leb (length out + length part) room l)
 
 module _ (F : FieldMeaning) (O : Compare) (I : Term → Term) (h row : Poly) (i j : ℕ) (out : Poly) (inv : (r : Poly) → Sums F O (drop i h) (map I (drop j row)) r → Sums F O h (map I row) (out ++ r)) where
   abbrev Whole : Poly → Type 0

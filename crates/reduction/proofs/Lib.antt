@@ -6,3 +6,8 @@ mod Writing
 mod AddingUp
 mod Multiples
 mod Subtracting
+mod Counting
+mod Divisors
+mod Acting
+mod Standing
+mod Turning

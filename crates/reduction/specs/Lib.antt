@@ -2,3 +2,4 @@ pub mod Table
 pub mod Search
 pub mod Subtraction
 pub mod Merging
+pub mod Reducing

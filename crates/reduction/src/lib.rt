@@ -8,6 +8,7 @@
 // reduce    reducing until no term has a divisor
 pub mod buffer;
 mod merge;
+pub mod reduce;
 pub mod refusal;
 pub mod search;
 pub mod subtract;
