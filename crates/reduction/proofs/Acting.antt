@@ -20,12 +20,12 @@ use Rattle.involutive.specs.Value.{at, scaled, negated, minus}
 use Rattle.involutive.specs.Reduction.{Table, row, leaders, Reducible, multiple, Difference}
 use Rattle.involutive.proofs.Ideals
 use Rattle.involutive.proofs.Monomials.{in-quotient, times-comm, times-quotient}
+use Rattle.involutive.proofs.Typing.{Ground}
 use Rattle.involutive.proofs.Values.{occurs, scaled-term}
 use Rattle.involutive.proofs.WrittenLists.{under-asym, written-at}
 use Rattle.reduction.specs.Subtraction.{Differs}
 use Rattle.reduction.proofs.Adding
 use Rattle.reduction.proofs.Codes.{add-neg}
-use Rattle.reduction.proofs.Subtracting.{ground}
 use Rattle.reduction.proofs.Terms.{Each, each-cons, each-head, each-tail, each-append, each-left, each-right, Tops, falling-head, falling-tail, falling-cons, falling-right}
 
 negated-each : (F : FieldMeaning) (P : List ℕ → Type 0) (f : Poly) → Each (λ t. P (exponents t)) f → Each (λ t. P (exponents t)) (negated F f)
@@ -41,7 +41,22 @@ tops-each : (O : Compare) (u : List ℕ) (f : Poly) → Each (λ s. Under O (exp
 tops-each O u [] h = tt
 tops-each O u (s ∷ f) h = h s (List·Memᴰ·head refl)
 
-module _ (F : FieldMeaning) (L : FieldLaws F) (O : Compare) (Q : OrderLaws O) (n : ℕ) where
+module _ (G : Ground) where
+  abbrev F : FieldMeaning
+  F = G .field
+
+  abbrev L : FieldLaws F
+  L = G .laws
+
+  abbrev O : Compare
+  O = G .order
+
+  abbrev Q : OrderLaws O
+  Q = G .order-laws
+
+  abbrev n : ℕ
+  n = G .variables
+
   abbrev Good : Term → Type 0
   Good = Adding.Good F L O Q n
 
@@ -74,16 +89,30 @@ module _ (F : FieldMeaning) (L : FieldLaws F) (O : Compare) (Q : OrderLaws O) (n
   differs-each P {h} {f} {g} d a b t m =
       ⊎-elim
       (λ r. subst P (r .is) (each-append (λ t. P (exponents t)) h (negated F f) a (negated-each F P f b) (r .by) (r .stands)))
-      (λ z. absurd (omega (arith, d .written .nonzero t m, sym (written-at (ground F L O Q n) g (d .written) t m) ∙ d .value (exponents t) ∙ z)))
+      (λ z. absurd (omega (arith, d .written .nonzero t m, sym (written-at G g (d .written) t m) ∙ d .value (exponents t) ∙ z)))
       (occurs F (minus F h f) (exponents t))
 
   -- s has no involutive divisor
   abbrev pub Clean : Split → Table → Term → Type 0
   Clean D T s = (j : ℕ) → Involutive D (leaders T) j (exponents s) → ⊥
 
-  module _ (D : Split) (T : Table) (fine : Poly) (t : Term) (rest : Poly) (k : ℕ) (l : Term) (tail : Poly)
-      (W : Written F O n (fine ++ t ∷ rest)) (small : Fits (fine ++ t ∷ rest)) (clean : Each (Clean D T) fine)
-      (div : Involutive D (leaders T) k (exponents t)) (is : row T k ≡ l ∷ tail) (W′ : Written F O n (l ∷ tail)) (monic : l .coefficient ≡ 1) where
+  -- an action: at the term t, by row k, whose leading term is l; no term before t has a divisor
+  pub record Action (D : Split) (T : Table) (fine : Poly) (t : Term) (rest : Poly) (k : ℕ) (l : Term) (tail : Poly) : Type 0 where
+    pub written : Written F O n (fine ++ t ∷ rest)
+    pub small : Fits (fine ++ t ∷ rest)
+    pub clean : Each (Clean D T) fine
+    pub divisor : Involutive D (leaders T) k (exponents t)
+    pub row-is : row T k ≡ l ∷ tail
+    pub row-written : Written F O n (l ∷ tail)
+    pub monic : l .coefficient ≡ 1
+
+  module _ {D : Split} {T : Table} {fine : Poly} {t : Term} {rest : Poly} {k : ℕ} {l : Term} {tail : Poly} (A : Action D T fine t rest k l tail) where
+    abbrev W : Written F O n (fine ++ t ∷ rest)
+    W = A .written
+
+    abbrev W′ : Written F O n (l ∷ tail)
+    W′ = A .row-written
+
     abbrev c : ℕ
     c = t .coefficient
 
@@ -105,19 +134,19 @@ module _ (F : FieldMeaning) (L : FieldLaws F) (O : Compare) (Q : OrderLaws O) (n
     pub reducible : Reducible F O D n T (fine ++ t ∷ rest) t k
     reducible = record {
       stands = here;
-      divisor = div;
-      greatest = λ s m u j i. ⊎-elim (λ p. clean s p j i) (λ p. ⊎-elim (λ e. loops (subst (λ x. Under O (exponents t) (exponents x)) e u)) (λ q. under-asym Q (exponents t) (exponents s) (at-t .1 .wide) (W .over s m .1 .wide) u (behind s q)) (List·Memᴰ·cases-cons p)) (List·Memᴰ·append-cases fine m);
+      divisor = A .divisor;
+      greatest = λ s m u j i. ⊎-elim (λ p. A .clean s p j i) (λ p. ⊎-elim (λ e. loops (subst (λ x. Under O (exponents t) (exponents x)) e u)) (λ q. under-asym Q (exponents t) (exponents s) (at-t .1 .wide) (W .over s m .1 .wide) u (behind s q)) (List·Memᴰ·cases-cons p)) (List·Memᴰ·append-cases fine m);
     }
       where
         loops : Under O (exponents t) (exponents t) → ⊥
         loops u = under-asym Q (exponents t) (exponents t) (at-t .1 .wide) (at-t .1 .wide) u u
 
     lead : member (leaders T) k ≡ exponents l
-    lead = let h : k - 1 < length T = (let w = div .within in omega (arith, length-map T leading)) in getD-map leading T (k - 1) [] [] h ∙ ap leading is
+    lead = let h : k - 1 < length T = (let w = A .divisor .within in omega (arith, length-map T leading)) in getD-map leading T (k - 1) [] [] h ∙ ap leading (A .row-is)
 
     whole : times a (exponents l) ≡ exponents t
     whole = times-comm a (exponents l) ∙ times-quotient (exponents l) (exponents t) (at-l .1 .wide ∙ sym (at-t .1 .wide))
-        (λ i. subst (λ j. getD (exponents l) j 0 ≤ getD (exponents t) j 0) (low i) (subst (λ u. exponent u (suc i) ≤ exponent (exponents t) (suc i)) lead (div .divides (suc i))))
+        (λ i. subst (λ j. getD (exponents l) j 0 ≤ getD (exponents t) j 0) (low i) (subst (λ u. exponent u (suc i) ≤ exponent (exponents t) (suc i)) lead (A .divisor .divides (suc i))))
 
     pub shift-in : In n a
     shift-in = in-quotient (exponents l) (at-t .1) (at-l .1 .wide)
@@ -129,14 +158,14 @@ module _ (F : FieldMeaning) (L : FieldLaws F) (O : Compare) (Q : OrderLaws O) (n
     written-behind = written-right (fine ++ t ∷ []) rest (subst (Written F O n) (sym (append-assoc fine (t ∷ []) rest)) W)
 
     head-is : F .mul c (l .coefficient) ≡ c
-    head-is = ap (F .mul c) monic ∙ L .mul-comm c 1 (at-t .0) (L .differ) ∙ L .one-neutral c (at-t .0)
+    head-is = ap (F .mul c) (A .monic) ∙ L .mul-comm c 1 (at-t .0) (L .differ) ∙ L .one-neutral c (at-t .0)
 
     -- the multiple has t's term in front
     multiple-is : multiple F O D n T t k ≡ term c (exponents t) ∷ scaled F c a tail
-    multiple-is = ap (λ r. scaled F c (quotient (exponents t) (leading r)) r) is ∙ (λ i. term (head-is i) (whole i) ∷ scaled F c a tail)
+    multiple-is = ap (λ r. scaled F c (quotient (exponents t) (leading r)) r) (A .row-is) ∙ (λ i. term (head-is i) (whole i) ∷ scaled F c a tail)
 
     pub fits-multiple : Fits (scaled F c a tail) → Fits (multiple F O D n T t k)
-    fits-multiple h = subst Fits (sym multiple-is) (each-cons (λ s. Bounded largest-exponent (exponents s)) (small t here) h)
+    fits-multiple h = subst Fits (sym multiple-is) (each-cons (λ s. Bounded largest-exponent (exponents s)) (A .small t here) h)
 
     pub wide-multiple : (Fits (scaled F c a tail) → ⊥) → Fits (multiple F O D n T t k) → ⊥
     wide-multiple h f = h (each-tail {P = λ s. Bounded largest-exponent (exponents s)} (subst Fits multiple-is f))
@@ -153,7 +182,7 @@ module _ (F : FieldMeaning) (L : FieldLaws F) (O : Compare) (Q : OrderLaws O) (n
       topped = tops-each O (exponents t) g below
 
       over-tail : Over F n (negated F (scaled F c a tail))
-      over-tail = Ideals.over-negated (ground F L O Q n) (scaled F c a tail) (Ideals.over-scaled (ground F L O Q n) c a (at-t .0) shift-in tail (written-tail .over))
+      over-tail = Ideals.over-negated G (scaled F c a tail) (Ideals.over-scaled G c a (at-t .0) shift-in tail (written-tail .over))
 
       -- t and the first term of the negated multiple cancel
       cancel : (m : List ℕ) → at F (minus F rest (scaled F c a tail)) m ≡ at F (minus F (t ∷ rest) (term c (exponents t) ∷ scaled F c a tail)) m
@@ -177,5 +206,5 @@ module _ (F : FieldMeaning) (L : FieldLaws F) (O : Compare) (Q : OrderLaws O) (n
 
       pub fits-new : Fits (scaled F c a tail) → Fits (fine ++ g)
       fits-new h =
-          each-append (λ s. Bounded largest-exponent (exponents s)) fine g (each-left fine (t ∷ rest) small)
-          (differs-each (Bounded largest-exponent) d (λ s m. small s (Memᴰ·append-right fine (List·Memᴰ·tail m))) h)
+          each-append (λ s. Bounded largest-exponent (exponents s)) fine g (each-left fine (t ∷ rest) (A .small))
+          (differs-each (Bounded largest-exponent) d (λ s m. A .small s (Memᴰ·append-right fine (List·Memᴰ·tail m))) h)

@@ -19,9 +19,10 @@ use Rattle.polynomial.specs.Polynomial.{Poly, exponents, Over, Written, Falling
 use Rattle.polynomial.specs.Check.{Fits, largest-exponent}
 use Rattle.involutive.specs.Value.{scaled}
 use Rattle.involutive.specs.Reduction.{Table, row, leaders, Outcome, left, refused, refuse, Reduces, done as reduced, acts, long, wide}
+use Rattle.involutive.proofs.Typing.{Ground}
 use Rattle.reduction.specs.Subtraction.{Differs}
 use Rattle.reduction.proofs.Acting
-use Rattle.reduction.proofs.Acting.{Clean}
+use Rattle.reduction.proofs.Acting.{Clean, Action}
 use Rattle.reduction.proofs.Counting.{count, count-strict, count-most}
 use Rattle.reduction.proofs.Terms.{Each, each-head, each-tail, each-append, each-right, Tops, falling-head, falling-tail, falling-right}
 
@@ -84,13 +85,28 @@ module _ (O : Compare) (Q : OrderLaws O) where
       let k = ahead-later d f (each-tail {P = λ t. Bounded largest-exponent (exponents t)} s) (each-tail {P = λ t. Wide (exponents t)} w) (falling-tail (d ++ f) h) in
       omega (arith, k, ahead-falls x (d ++ f) (d ++ f) (s x (List·Memᴰ·head refl)) (each-head {P = λ t. Wide (exponents t)} w) (each-tail {P = λ t. Wide (exponents t)} w) (falling-head (d ++ f) h))
 
-module _ (F : FieldMeaning) (L : FieldLaws F) (O : Compare) (Q : OrderLaws O) (D : Split) (n : ℕ) (T : Table) (room : ℕ) where
+module _ (G : Ground) (D : Split) (T : Table) (room : ℕ) where
+  abbrev F : FieldMeaning
+  F = G .field
+
+  abbrev L : FieldLaws F
+  L = G .laws
+
+  abbrev O : Compare
+  O = G .order
+
+  abbrev Q : OrderLaws O
+  Q = G .order-laws
+
+  abbrev n : ℕ
+  n = G .variables
+
   -- after `turn` turns from h on: no term of `fine` has a divisor, and whatever fine and rest together come to, h comes to
   pub record Stands (h fine rest : Poly) (turn : ℕ) : Type 0 where
     pub written : Written F O n (fine ++ rest)
     pub small : Fits (fine ++ rest)
     pub short : length (fine ++ rest) ≤ room
-    pub clean : Each (Clean F L O Q n D T) fine
+    pub clean : Each (Clean G D T) fine
     pub comes : {o : Outcome} → Reduces F O D n T room (fine ++ rest) o → Reduces F O D n T room h o
     pub turns : turn + ahead O rest ≤ monomials
 
@@ -104,7 +120,7 @@ module _ (F : FieldMeaning) (L : FieldLaws F) (O : Compare) (Q : OrderLaws O) (D
   ended {h} {fine} S = S .comes (subst (λ x. Reduces F O D n T room x (left fine)) (sym (append-nil fine)) (reduced (λ t m k i. S .clean t m k i)))
 
   -- terms without a divisor are done
-  pub moved : {h fine : Poly} (d rest : Poly) {turn : ℕ} → Stands h fine (d ++ rest) turn → Each (Clean F L O Q n D T) d → Stands h (fine ++ d) rest turn
+  pub moved : {h fine : Poly} (d rest : Poly) {turn : ℕ} → Stands h fine (d ++ rest) turn → Each (Clean G D T) d → Stands h (fine ++ d) rest turn
   moved {h} {fine} d rest {turn} S k =
       let e = append-assoc fine d rest in
       let b = S .turns in
@@ -112,7 +128,7 @@ module _ (F : FieldMeaning) (L : FieldLaws F) (O : Compare) (Q : OrderLaws O) (D
         written = subst (Written F O n) (sym e) (S .written);
         small = subst Fits (sym e) (S .small);
         short = subst (λ x. length x ≤ room) (sym e) (S .short);
-        clean = each-append (Clean F L O Q n D T) fine d (S .clean) k;
+        clean = each-append (Clean G D T) fine d (S .clean) k;
         comes = λ {o} r. S .comes (subst (λ x. Reduces F O D n T room x o) e r);
         turns = omega (arith, b, ahead-later O Q d rest (each-right fine (d ++ rest) (S .small)) (wides (each-right fine (d ++ rest) (S .written .over))) (falling-right fine (d ++ rest) (S .written .falling)));
       }
@@ -124,26 +140,32 @@ module _ (F : FieldMeaning) (L : FieldLaws F) (O : Compare) (Q : OrderLaws O) (D
       let z : rest ≡ [] = ahead-none O Q rest (each-right fine rest (S .small)) (wides (each-right fine rest (S .written .over))) (omega arith) in
       ended (subst (λ x. Stands h fine x turn) z S)
 
-  module _ {h fine rest : Poly} {t : Term} {turn : ℕ} (S : Stands h fine (t ∷ rest) turn) (k : ℕ) (l : Term) (tail : Poly) (div : Involutive D (leaders T) k (exponents t)) (is : row T k ≡ l ∷ tail) (W : Written F O n (l ∷ tail)) (monic : l .coefficient ≡ 1) where
+  -- the action of a turn
+  pub action : {h fine rest : Poly} {t : Term} {turn : ℕ} → Stands h fine (t ∷ rest) turn → (k : ℕ) (l : Term) (tail : Poly) → Involutive D (leaders T) k (exponents t) → row T k ≡ l ∷ tail → Written F O n (l ∷ tail) → l .coefficient ≡ 1 → Action G D T fine t rest k l tail
+  action S k l tail div is w m = record { written = S .written; small = S .small; clean = S .clean; divisor = div; row-is = is; row-written = w; monic = m }
+
+  module _ {h fine rest : Poly} {t : Term} {turn k : ℕ} {l : Term} {tail : Poly} (S : Stands h fine (t ∷ rest) turn) (A : Action G D T fine t rest k l tail) where
     abbrev M : Poly
     M = scaled F (t .coefficient) (quotient (exponents t) (exponents l)) tail
 
+    here : List·Memᴰ t (fine ++ t ∷ rest)
+    here = Memᴰ·append-right fine (List·Memᴰ·head refl)
+
     pub acted : (g : Poly) → Fits M → Differs F O n rest M g → length (fine ++ g) ≤ room → Stands h fine g (suc turn)
     acted g e r p =
-        let d = Acting.difference F L O Q n D T fine t rest k l tail (S .written) (S .small) (S .clean) div is W monic r in
-        let here = Memᴰ·append-right fine (List·Memᴰ·head refl) in
+        let d = Acting.difference G A r in
         let b = S .turns in
         record {
           written = d .written;
-          small = Acting.fits-new F L O Q n D T fine t rest k l tail (S .written) (S .small) (S .clean) div is W monic r e;
+          small = Acting.fits-new G A r e;
           short = p;
           clean = S .clean;
-          comes = λ q. S .comes (acts (Acting.reducible F L O Q n D T fine t rest k l tail (S .written) (S .small) (S .clean) div is W monic) (Acting.fits-multiple F L O Q n D T fine t rest k l tail (S .written) (S .small) (S .clean) div is W monic e) d p q);
-          turns = omega (arith, b, ahead-falls O Q t rest g (S .small t here) (S .written .over t here .1 .wide) (wides (each-right fine g (d .written .over))) (Acting.topped F L O Q n D T fine t rest k l tail (S .written) (S .small) (S .clean) div is W monic r));
+          comes = λ q. S .comes (acts (Acting.reducible G A) (Acting.fits-multiple G A e) d p q);
+          turns = omega (arith, b, ahead-falls O Q t rest g (S .small t here) (S .written .over t here .1 .wide) (wides (each-right fine g (d .written .over))) (Acting.topped G A r));
         }
 
     pub too-long : (g : Poly) → Fits M → Differs F O n rest M g → room < length (fine ++ g) → Reduces F O D n T room h (refused (refuse 10 k))
-    too-long g e r p = S .comes (long (Acting.reducible F L O Q n D T fine t rest k l tail (S .written) (S .small) (S .clean) div is W monic) (Acting.fits-multiple F L O Q n D T fine t rest k l tail (S .written) (S .small) (S .clean) div is W monic e) (Acting.difference F L O Q n D T fine t rest k l tail (S .written) (S .small) (S .clean) div is W monic r) p)
+    too-long g e r p = S .comes (long (Acting.reducible G A) (Acting.fits-multiple G A e) (Acting.difference G A r) p)
 
     pub too-wide : (Fits M → ⊥) → Reduces F O D n T room h (refused (refuse 9 k))
-    too-wide e = S .comes (wide (Acting.reducible F L O Q n D T fine t rest k l tail (S .written) (S .small) (S .clean) div is W monic) (Acting.wide-multiple F L O Q n D T fine t rest k l tail (S .written) (S .small) (S .clean) div is W monic e))
+    too-wide e = S .comes (wide (Acting.reducible G A) (Acting.wide-multiple G A e))

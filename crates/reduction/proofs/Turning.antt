@@ -11,15 +11,16 @@ use Rattle.std.specs.declared.option.Option.the-variants.{Some, None}
 use Rattle.std.specs.declared.result.Result.{Result}
 use Rattle.std.specs.declared.result.Result.the-variants.{Ok, Err}
 use Rattle.std.proofs.shelf.Lists.{getD-map, getD-take, drop-more, take-all}
-use Rattle.field.specs.Field.{FieldMeaning, FieldLaws}
+use Rattle.field.specs.Field.{FieldMeaning}
 use Rattle.monomial.specs.Monomial.{Wide, In, quotient}
-use Rattle.monomial.specs.Order.{Compare, OrderLaws}
+use Rattle.monomial.specs.Order.{Compare}
 use Rattle.monomial.specs.Division.{Split, Within, Involutive, member}
 use Rattle.polynomial.specs.declared.term.Term.{Term}
 use Rattle.polynomial.specs.Polynomial.{Poly, term, exponents, Written, leading, leading-coefficient}
 use Rattle.polynomial.specs.Check.{Fits, most-terms}
 use Rattle.involutive.specs.Value.{scaled}
 use Rattle.involutive.specs.Reduction.{Table, row, leaders, Reduces, left, refused, refuse}
+use Rattle.involutive.proofs.Typing.{Ground}
 use Rattle.involutive.proofs.Lists.{entry-member, member-entry}
 use Rattle.reduction.specs.declared.refusal.Reason.{Reason}
 use Rattle.reduction.specs.declared.refusal.Reason.the-variants.{Wide as TooWide, Long}
@@ -29,7 +30,7 @@ use Rattle.reduction.specs.Search.{LeadDivides, NoRow, NoTerm, Finds, monomial
 use Rattle.reduction.specs.Subtraction.{Subtracted, Differs}
 use Rattle.reduction.specs.Reducing.{number}
 use Rattle.reduction.proofs.Acting
-use Rattle.reduction.proofs.Acting.{Clean}
+use Rattle.reduction.proofs.Acting.{Clean, Action}
 use Rattle.reduction.proofs.AddingUp.{extend-all}
 use Rattle.reduction.proofs.Divisors.{involutive-yes, involutive-no}
 use Rattle.reduction.proofs.Standing
@@ -48,12 +49,21 @@ first-of : (f : Poly) → leading-coefficient f ≡ 1 → (l : Term) × (f ≡ l
 first-of [] e = absurd (let z : _≡_ {A = ℕ} 0 1 = e in omega arith)
 first-of (l ∷ f) e = (l, refl)
 
-module _ (F : FieldMeaning) (L : FieldLaws F) (O : Compare) (Q : OrderLaws O) (D : Split) (n : ℕ) (rows : List Row) (sound : SoundTable (setting F O D n) rows) (room : ℕ) where
+module _ (G : Ground) (D : Split) (rows : List Row) (sound : SoundTable (setting (G .field) (G .order) D (G .variables)) rows) (room : ℕ) where
+  abbrev F : FieldMeaning
+  F = G .field
+
+  abbrev O : Compare
+  O = G .order
+
+  abbrev n : ℕ
+  n = G .variables
+
   abbrev T : Table
   T = table-of rows
 
   abbrev At : Poly → Poly → Poly → ℕ → Type 0
-  At = Stands F L O Q D n T room
+  At = Stands G D T room
 
   -- row i, counted from 0
   module _ (i : ℕ) (r : Row) (inside : i < length rows) (at : r ≡ getD rows i r) where
@@ -82,7 +92,7 @@ module _ (F : FieldMeaning) (L : FieldLaws F) (O : Compare) (Q : OrderLaws O) (D
     divisor-no m w = involutive-no D (leaders T) (suc i) (r .lead) m within lead-is wide w (S .flags)
 
   -- a term that no row divides has no involutive divisor
-  clean : (t : Term) → Wide (exponents t) → NoRow rows (length rows) (exponents t) → Clean F L O Q n D T t
+  clean : (t : Term) → Wide (exponents t) → NoRow rows (length rows) (exponents t) → Clean G D T t
   clean t w e zero i = let h = i .within in absurd (omega arith)
   clean t w e (suc j) i =
       let h = i .within in
@@ -90,7 +100,7 @@ module _ (F : FieldMeaning) (L : FieldLaws F) (O : Compare) (Q : OrderLaws O) (D
       let x = element rows j l in
       e j l (x .0) (x .1) (divisor-no j (x .0) l (x .1) (exponents t) w i)
 
-  clean-upto : (f : Poly) (k : ℕ) → k ≤ length f → Each (λ t. Wide (exponents t)) f → NoTerm rows f k → Each (Clean F L O Q n D T) (take k f)
+  clean-upto : (f : Poly) (k : ℕ) → k ≤ length f → Each (λ t. Wide (exponents t)) f → NoTerm rows f k → Each (Clean G D T) (take k f)
   clean-upto f k l w none t m =
       let x = member-entry (term 0 []) (take k f) m in
       let h : x .0 < k = (let b = x .1 in omega (arith, length-take k f)) in
@@ -104,8 +114,8 @@ module _ (F : FieldMeaning) (L : FieldLaws F) (O : Compare) (Q : OrderLaws O) (D
   -- no term is left that a row divides
   pub finished : {h fine rest : Poly} {turn : ℕ} (fine′ : Poly) → At h fine rest turn → Finds rows rest None → fine′ ≡ fine ++ rest → Reduces F O D n T room h (left fine′)
   finished {h} {fine} {rest} {turn} fine′ st none e =
-      let k = subst (Each (Clean F L O Q n D T)) (take-all (length rest) rest (omega arith)) (clean-upto rest (length rest) (omega arith) (wides st) none) in
-      subst (λ x. Reduces F O D n T room h (left x)) (sym e) (ended F L O Q D n T room (moved F L O Q D n T room rest [] (subst (λ x. At h fine x turn) (sym (append-nil rest)) st) k))
+      let k = subst (Each (Clean G D T)) (take-all (length rest) rest (omega arith)) (clean-upto rest (length rest) (omega arith) (wides st) none) in
+      subst (λ x. Reduces F O D n T room h (left x)) (sym e) (ended G D T room (moved G D T room rest [] (subst (λ x. At h fine x turn) (sym (append-nil rest)) st) k))
 
   -- there is room for the terms that are done
   pub front-fits : {h fine rest : Poly} {turn : ℕ} → At h fine rest turn → (part : Poly) → length part ≤ length rest → (most : ℕ) → room ≤ most → length fine + length part ≤ most
@@ -130,7 +140,7 @@ module _ (F : FieldMeaning) (L : FieldLaws F) (O : Compare) (Q : OrderLaws O) (D
     here =
         let b = found .0 in
         subst (λ x. At h x (t ∷ drop (i + 1) rest) turn) (sym front)
-        (moved F L O Q D n T room (take i rest) (t ∷ drop (i + 1) rest) (subst (λ x. At h fine x turn) cut st) (clean-upto rest i (omega arith) (wides st) (found .1)))
+        (moved G D T room (take i rest) (t ∷ drop (i + 1) rest) (subst (λ x. At h fine x turn) cut st) (clean-upto rest i (omega arith) (wides st) (found .1)))
 
     t-there : List·Memᴰ t (fine′ ++ t ∷ drop (i + 1) rest)
     t-there = Memᴰ·append-right fine′ (List·Memᴰ·head refl)
@@ -153,6 +163,9 @@ module _ (F : FieldMeaning) (L : FieldLaws F) (O : Compare) (Q : OrderLaws O) (D
     monic : l .coefficient ≡ 1
     monic = sym (ap leading-coefficient (split k r (found .2 .inside) is-r)) ∙ at-row .good .monic
 
+    action : Action G D T fine′ t (drop (i + 1) rest) (suc k) l tail
+    action = Standing.action G D T room here (suc k) l tail div is W monic
+
     abbrev a : List ℕ
     a = quotient (exponents t) (r .lead .monomial .exponents)
 
@@ -172,10 +185,10 @@ module _ (F : FieldMeaning) (L : FieldLaws F) (O : Compare) (Q : OrderLaws O) (D
     subtracted : (free : ℕ) (behind : Poly) (res : Result (Unit {0}) Reason) (out : Poly) → behind ≡ drop (i + 1) rest → Cancels free behind res out → Subtracted F O n free (drop (i + 1) rest) M res out
     subtracted free behind res out e s =
         subst (λ x. Cancels free x res out) e s n
-        (Acting.written-behind F L O Q n D T fine′ t (drop (i + 1) rest) (suc k) l tail (here .written) (here .small) (here .clean) div is W monic)
-        (Acting.written-tail F L O Q n D T fine′ t (drop (i + 1) rest) (suc k) l tail (here .written) (here .small) (here .clean) div is W monic)
+        (Acting.written-behind G action)
+        (Acting.written-tail G action)
         (here .written .nonzero t t-there) (here .written .over t t-there .0)
-        (subst (In n) (sym shift-is) (Acting.shift-in F L O Q n D T fine′ t (drop (i + 1) rest) (suc k) l tail (here .written) (here .small) (here .clean) div is W monic))
+        (subst (In n) (sym shift-is) (Acting.shift-in G action))
 
     module _ (small : room ≤ most-terms) (is-most : most ≡ min room most-terms) (len : ℕ) (is-len : len ≡ length fine′) (behind : Poly) (is-behind : behind ≡ drop (i + 1) rest) where
       abbrev free : ℕ
@@ -189,12 +202,12 @@ module _ (F : FieldMeaning) (L : FieldLaws F) (O : Compare) (Q : OrderLaws O) (D
           let x = subtracted free behind (Ok u) g is-behind s in
           let q = x .2 in
           subst (λ y. At h fine′ y (turn + 1)) (sym e) (subst (At h fine′ g) (sym (add-one turn))
-          (Standing.acted F L O Q D n T room here (suc k) l tail div is W monic g (subst Fits M-is (x .0)) (subst (λ m. Differs F O n (drop (i + 1) rest) m g) M-is (x .1)) (omega (arith, length-append fine′ g, exact))))
+          (Standing.acted G D T room here action g (subst Fits M-is (x .0)) (subst (λ m. Differs F O n (drop (i + 1) rest) m g) M-is (x .1)) (omega (arith, length-append fine′ g, exact))))
 
       stopped : (why : Reason) (g : Poly) → Subtracted F O n free (drop (i + 1) rest) M (Err why) g → Reduces F O D n T room h (refused (refuse (number why) (suc k)))
-      stopped TooWide g s = Standing.too-wide F L O Q D n T room here (suc k) l tail div is W monic (λ f. s (subst Fits (sym M-is) f))
+      stopped TooWide g s = Standing.too-wide G D T room here action (λ f. s (subst Fits (sym M-is) f))
       stopped Long g (e, (f, d, q)) =
-          Standing.too-long F L O Q D n T room here (suc k) l tail div is W monic f (subst Fits M-is e) (subst (λ m. Differs F O n (drop (i + 1) rest) m f) M-is d) (omega (arith, length-append fine′ f, exact))
+          Standing.too-long G D T room here action f (subst Fits M-is e) (subst (λ m. Differs F O n (drop (i + 1) rest) m f) M-is d) (omega (arith, length-append fine′ f, exact))
 
       pub stop : (why : Reason) (g : Poly) → Cancels free behind (Err why) g → Reduces F O D n T room h (refused (refuse (number why) (k + 1)))
       stop why g s = subst (λ j. Reduces F O D n T room h (refused (refuse (number why) j))) (sym (add-one k)) (stopped why g (subtracted free behind (Err why) g is-behind s))

@@ -12,4 +12,4 @@ abbrev pub Inv-loop-turn : given.InvT-loop-turn
 Inv-loop-turn g l =
     (length (vec-items (l .done .terms)) ≤ l .most)
     × ((D : Split) (n : ℕ) → SoundTable (setting (g .F·Field .meaning (l .field)) (g .O·Order .meaning (l .order)) D n) (l .table) → Acceptable (g .F·Field .meaning (l .field)) (g .O·Order .meaning (l .order)) n (vec-items (l .entry .rest .terms)) → l .room ≤ most-terms → length (vec-items (l .entry .rest .terms)) ≤ l .room
-    → Stands (g .F·Field .meaning (l .field)) (g .F·Field·met .laws (l .field)) (g .O·Order .meaning (l .order)) (g .O·Order·met .laws (l .order)) D n (table-of (l .table)) (l .room) (vec-items (l .entry .rest .terms)) (vec-items (l .done .terms)) (vec-items (l .rest .terms)) (l .turn))
+    → Stands (record { field = g .F·Field .meaning (l .field); laws = g .F·Field·met .laws (l .field); order = g .O·Order .meaning (l .order); order-laws = g .O·Order·met .laws (l .order); variables = n }) D (table-of (l .table)) (l .room) (vec-items (l .entry .rest .terms)) (vec-items (l .done .terms)) (vec-items (l .rest .terms)) (l .turn))
