@@ -1,19 +1,20 @@
 -- The terms of −c x^a f, one by one: where no exponent is above 40 they are those of the negated multiple, and that is written.
 use mathlib.Core.Path.{_≡_, refl, sym, _∙_, ap, subst}
-use mathlib.Core.Bool.{Bool, true, false, _&&_}
-use mathlib.Core.List.{List, [], _∷_, map, List·Memᴰ, List·Memᴰ·head, List·Memᴰ·tail}
+use mathlib.Core.Bool.{Bool, true, false, cond, _&&_}
+use mathlib.Core.List.{List, [], _∷_, _++_, map, map-append, List·Memᴰ, List·Memᴰ·head, List·Memᴰ·tail}
 use mathlib.Core.Logic.{⊎-elim}
 use Prim.Native.Nat.{ℕ, zero, suc, _+_, _-_, _≤_, _<_, min}
 use native.Mathlib.Omega.{arith}
-use lib.Dec.{leb}
-use lib.ListN.{length, getD}
-use Rattle.std.proofs.shelf.Tests.{and-parts, and-cases, leb-true, leb-false, both-ways}
+use lib.Dec.{leb, ltb}
+use lib.ListN.{length, getD, take, length-map, length-take}
+use Rattle.std.proofs.shelf.Lists.{take-more}
+use Rattle.std.proofs.shelf.Tests.{and-parts, and-cases, leb-true, leb-false, lt-ltb, both-ways, cond-true}
 use Rattle.field.specs.Field.{FieldMeaning, FieldLaws}
 use Rattle.monomial.specs.Monomial.{Wide, width, In, times, Bounded}
 use Rattle.monomial.specs.Order.{Compare, OrderLaws}
 use Rattle.monomial.proofs.Places.{low, agree-all}
 use Rattle.polynomial.specs.declared.term.Term.{Term}
-use Rattle.polynomial.specs.Polynomial.{Poly, exponents, Over, Falling, none, single, more, Written}
+use Rattle.polynomial.specs.Polynomial.{Poly, term, exponents, Over, Falling, none, single, more, Written}
 use Rattle.polynomial.specs.Check.{Fits, largest-exponent}
 use Rattle.involutive.specs.Value.{scaled, negated}
 use Rattle.involutive.proofs.Typing.{Ground}
@@ -76,12 +77,25 @@ module _ (F : FieldMeaning) (L : FieldLaws F) (n : ℕ) where
   abbrev Good : Term → Type 0
   Good t = (t .coefficient < F .q) × In n (exponents t)
 
-  pub images : (c : ℕ) (a : List ℕ) (f : Poly) → c < F .q → Over F n f → all-small a f ≡ true → map (image F (F .neg c) a) f ≡ negated F (scaled F c a f)
+  -- the terms that the code makes are those of the multiple
+  pub images : (c : ℕ) (a : List ℕ) (f : Poly) → c < F .q → Over F n f → all-small a f ≡ true → map (image F c a) f ≡ scaled F c a f
   images c a [] p o e = refl
   images c a (t ∷ f) p o e =
       let k = and-parts (small-product a (exponents t)) (all-small a f) e in
-      let b = each-head {P = Good} o .0 in
-      cc (product-is F L (F .neg c) (t .coefficient) (L .neg-below c p) b, mul-neg F L c (t .coefficient) p b, capped-times a (exponents t) (k .0), images c a f p (each-tail {P = Good} o) (k .1))
+      cc (product-is F L c (t .coefficient) p (each-head {P = Good} o .0), capped-times a (exponents t) (k .0), images c a f p (each-tail {P = Good} o) (k .1))
+
+  scaled-negative : (c : ℕ) (a : List ℕ) (f : Poly) → c < F .q → Over F n f → scaled F (F .neg c) a f ≡ negated F (scaled F c a f)
+  scaled-negative c a [] p o = refl
+  scaled-negative c a (t ∷ f) p o = cc (mul-neg F L c (t .coefficient) p (each-head {P = Good} o .0), scaled-negative c a f p (each-tail {P = Good} o))
+
+  pub negative-images : (c : ℕ) (a : List ℕ) (f : Poly) → c < F .q → Over F n f → all-small a f ≡ true → map (image F (F .neg c) a) f ≡ negated F (scaled F c a f)
+  negative-images c a f p o e = images (F .neg c) a f (L .neg-below c p) o e ∙ scaled-negative c a f p o
+
+-- one term more
+pub one-more : (I : Term → Term) (f : Poly) (k : ℕ) (x : Term) (out out′ : Poly) (b : Bool) → k < length f → length f ≤ 40 → out ≡ map I (take k f) → x ≡ I (getD f k (term 0 [])) → b ≡ ltb (length out) 40 → out′ ≡ cond b (out ++ x ∷ []) out → out′ ≡ map I (take (k + 1) f)
+one-more I f k x out out′ b h l e is t d =
+    let s : length out < 40 = omega (arith, ap length e, length-map (take k f) I, length-take k f) in
+    d ∙ cond-true b (out ++ x ∷ []) out (t ∙ lt-ltb (length out) 40 s) ∙ (λ i. e i ++ is i ∷ []) ∙ sym (map-append I (take k f) (getD f k (term 0 []) ∷ [])) ∙ ap (map I) (sym (take-more f k (term 0 []) h))
 
 -- the negative of what is written is written
 module _ (ground : Ground) where

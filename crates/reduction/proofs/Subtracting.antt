@@ -13,7 +13,7 @@ use Rattle.reduction.specs.Merging.{Sums, image, all-small, code-negative}
 use Rattle.reduction.specs.Subtraction.{Differs}
 use Rattle.reduction.proofs.Adding
 use Rattle.reduction.proofs.Codes.{negative-is}
-use Rattle.reduction.proofs.Multiples.{images, written-multiple}
+use Rattle.reduction.proofs.Multiples.{negative-images, written-multiple}
 
 module _ (F : FieldMeaning) (L : FieldLaws F) (O : Compare) (Q : OrderLaws O) (n : ℕ) where
   abbrev pub ground : Ground
@@ -23,7 +23,7 @@ module _ (F : FieldMeaning) (L : FieldLaws F) (O : Compare) (Q : OrderLaws O) (n
     pub differs : (k : ℕ) {g : Poly} → k ≡ code-negative F c → all-small a row ≡ true → Sums F O h (map (image F k a) row) g → Differs F O n h (scaled F c a row) g
     differs k {g} d e r =
         let m = written-multiple ground c a pos below within row w in
-        let i = images F L n c a row below (w .over) e in
+        let i = negative-images F L n c a row below (w .over) e in
         let s : Sums F O h (negated F (scaled F c a row)) g = subst (λ x. Sums F O h x g) i (subst (λ x. Sums F O h (map (image F x a) row) g) (d ∙ negative-is F L c below) r) in
         record {
           written = Adding.written F L O Q n s v m;

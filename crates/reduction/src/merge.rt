@@ -35,7 +35,7 @@ fn multiply(a: &Monomial, b: &Monomial) -> Monomial
 }
 
 // The term of the multiple that this term gives.
-fn image<F: Field>(field: &F, coefficient: u16, shift: &Monomial, term: &Term) -> Term
+pub(crate) fn image<F: Field>(field: &F, coefficient: u16, shift: &Monomial, term: &Term) -> Term
     ensures { λ r. ⌜ r ≡ imaged (F·Field .meaning (now (field .entry))) coefficient (now (shift .entry) .exponents) (now (term .entry)) ⌝ }
 {
     Term {
