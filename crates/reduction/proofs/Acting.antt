@@ -175,8 +175,8 @@ module _ (G : Ground) where
       below : Each (λ s. Under O (exponents s) (exponents t)) g
       below = differs-each (λ u. Under O u (exponents t)) d behind
           (λ s m. let r = scaled-term F c a tail s m in
-              subst (λ x. Under O (exponents x) (exponents t)) (sym (r .2)) (subst (Under O (times a (exponents (r .0)))) whole
-              (Q .factor a (exponents (r .0)) (exponents l) (shift-in .wide) (W′ .over (r .0) (List·Memᴰ·tail (r .1)) .1 .wide) (at-l .1 .wide) ∙ laters l tail (W′ .over) (W′ .falling) (r .0) (r .1))))
+          subst (λ x. Under O (exponents x) (exponents t)) (sym (r .2)) (subst (Under O (times a (exponents (r .0)))) whole
+          (Q .factor a (exponents (r .0)) (exponents l) (shift-in .wide) (W′ .over (r .0) (List·Memᴰ·tail (r .1)) .1 .wide) (at-l .1 .wide) ∙ laters l tail (W′ .over) (W′ .falling) (r .0) (r .1))))
 
       pub topped : Tops O (exponents t) g
       topped = tops-each O (exponents t) g below

@@ -30,6 +30,7 @@ impl Buffer {
         Ok(Buffer { terms })
     }
 
+    // No terms; the room stays.
     pub fn clear(&mut self)
         ensures { λ _. ⌜ vec-items (now (self .exit) .terms) ≡ [] ⌝ }
     {
@@ -43,7 +44,7 @@ impl Buffer {
         if terms.len() > MOST_TERMS {
             return false;
         }
-        self.terms.clear();
+        self.clear();
         let _ = self.terms.extend_from_slice(terms);
         true
     }

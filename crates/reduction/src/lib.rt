@@ -15,3 +15,5 @@ pub mod scale;
 pub mod search;
 pub mod subtract;
 pub mod table;
+#[cfg(test)]
+mod tests;

@@ -15,10 +15,7 @@ pub fn find_reducible(table: &[Row], terms: &[Term]) -> Option<(usize, usize)>
             for v in 0..WIDTH {
                 let mine = row.lead.monomial.exponents[v];
                 let other = term.monomial.exponents[v];
-                if mine > other {
-                    continue 'row;
-                }
-                if mine < other && !row.lead.multiplicative[v] {
+                if mine > other || (mine < other && !row.lead.multiplicative[v]) {
                     continue 'row;
                 }
             }
