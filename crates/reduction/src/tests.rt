@@ -72,10 +72,42 @@ fn reduce(heap: Global, b: u8, term: Term) -> Result<(Result<(), Denied>, Buffer
     Ok((answer, done))
 }
 
+// Whether these are the terms of the polynomial with this one term.
+fn is_single(terms: &[Term], term: Term) -> bool {
+    terms.len() == 1
+        && terms[0].coefficient == term.coefficient
+        && terms[0].monomial.is_same(&term.monomial)
+}
+
 #[test]
 fn reduces_to_a_constant(rt: LibcRuntime) -> Result<(), Fail> {
     let (answer, done) = reduce(rt.alloc(), 1, power(1, 2, 0))?;
     check_eq(answer, Ok(()))?;
-    check_eq(done.terms.len(), 1)?;
-    Ok(())
+    // x1^2 = 3 x2^2 = 3 * 3 = 2
+    check(is_single(done.terms.as_slice(), power(2, 0, 0)))
+}
+
+#[test]
+fn refuses_an_exponent_above_40(rt: LibcRuntime) -> Result<(), Fail> {
+    let (answer, _) = reduce(rt.alloc(), 40, power(1, 1, 1))?;
+    check_eq(
+        answer,
+        Err(Denied {
+            reason: Reason::Wide,
+            row: 1,
+        }),
+    )
+}
+
+#[test]
+fn asks_for_multiplicative_variables(rt: LibcRuntime) -> Result<(), Fail> {
+    let rows = table(rt.alloc(), 1)?;
+    check_eq(
+        find_reducible(rows.as_slice(), &[power(1, 0, 1), power(1, 0, 3)]),
+        Some((1, 1)),
+    )?;
+    check_eq(
+        find_reducible(&rows.as_slice()[1..], &[power(1, 1, 3)]),
+        None,
+    )
 }
