@@ -1,0 +1,13 @@
+mod Terms
+mod Codes
+mod Adding
+mod Meeting
+mod Writing
+mod AddingUp
+mod Multiples
+mod Subtracting
+mod Counting
+mod Divisors
+mod Acting
+mod Standing
+mod Turning
