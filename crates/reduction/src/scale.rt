@@ -17,7 +17,7 @@ use polynomial::check::MOST_TERMS;
 use polynomial::term::Term;
 
 // c x^a times the terms into the buffer, where x^a is the shift, unless the terms are more than 40 or an exponent of the
-// product is above 40.
+// product is above 40; then nothing changes.
 pub fn scale<F: Field>(
     field: &F,
     terms: &[Term],
@@ -25,7 +25,8 @@ pub fn scale<F: Field>(
     shift: &Monomial,
     out: &mut Buffer,
 ) -> bool
-    ensures { λ r. ⌜ ((n : ℕ) → Over (F·Field .meaning (now (field .entry))) n (now (terms .entry)) → coefficient < F·Field .meaning (now (field .entry)) .q → When r (Fits (scaled (F·Field .meaning (now (field .entry))) coefficient (now (shift .entry) .exponents) (now (terms .entry))) × (vec-items (now (out .exit) .terms) ≡ scaled (F·Field .meaning (now (field .entry))) coefficient (now (shift .entry) .exponents) (now (terms .entry)))) ((most-terms < length (now (terms .entry))) ⊎ (Fits (scaled (F·Field .meaning (now (field .entry))) coefficient (now (shift .entry) .exponents) (now (terms .entry))) → ⊥))) ⌝ }
+    ensures all { λ r. ⌜ When r (length (vec-items (now (out .exit) .terms)) ≡ length (now (terms .entry))) (vec-items (now (out .exit) .terms) ≡ vec-items (now (out .entry) .terms)) ⌝ }
+    ensures value { λ r. ⌜ ((n : ℕ) → Over (F·Field .meaning (now (field .entry))) n (now (terms .entry)) → coefficient < F·Field .meaning (now (field .entry)) .q → When r (Fits (scaled (F·Field .meaning (now (field .entry))) coefficient (now (shift .entry) .exponents) (now (terms .entry))) × (vec-items (now (out .exit) .terms) ≡ scaled (F·Field .meaning (now (field .entry))) coefficient (now (shift .entry) .exponents) (now (terms .entry)))) ((most-terms < length (now (terms .entry))) ⊎ (Fits (scaled (F·Field .meaning (now (field .entry))) coefficient (now (shift .entry) .exponents) (now (terms .entry))) → ⊥))) ⌝ }
 {
     if terms.len() > MOST_TERMS {
         return false;

@@ -1,0 +1,8 @@
+// A sheet: its rows, its marks, and the calls on it.
+//
+// table   the rows of a sheet, and the memory for those to come
+// marks   which pairs of a row and a variable are marked
+// flags   which variables are multiplicative for each row
+mod flags;
+mod marks;
+mod table;
