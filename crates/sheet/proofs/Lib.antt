@@ -1,2 +1,3 @@
 mod Mapping
 mod Marking
+mod Searching

@@ -1,8 +1,10 @@
 // A sheet: its rows, its marks, and the calls on it.
 //
+// choose  the pair that a step takes
 // table   the rows of a sheet, and the memory for those to come
 // marks   which pairs of a row and a variable are marked
 // flags   which variables are multiplicative for each row
+mod choose;
 mod flags;
 mod marks;
 mod table;
