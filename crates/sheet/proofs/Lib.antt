@@ -1,3 +1,5 @@
+mod Choosings
 mod Mapping
 mod Marking
 mod Searching
+mod Smallest
