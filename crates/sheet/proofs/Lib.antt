@@ -1,5 +1,6 @@
 mod Choosings
 mod Mapping
 mod Marking
+mod Prolonging
 mod Searching
 mod Smallest
