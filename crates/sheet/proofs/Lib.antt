@@ -1,3 +1,4 @@
+mod Appending
 mod Choosings
 mod Mapping
 mod Marking
