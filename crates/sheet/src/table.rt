@@ -21,6 +21,7 @@ pub(crate) struct Table {
     pub(crate) leaders: Vec<Monomial>,
     ghost room: { 32 ≤ vec-cap rows },
     ghost whole: { vec-len rows + vec-len spare ≡ 32 },
+    ghost stock: { 32 ≤ vec-cap spare },
     ghost list: { 32 ≤ vec-cap leaders },
 }
 
