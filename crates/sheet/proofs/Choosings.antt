@@ -24,7 +24,7 @@ use Rattle.reduction.specs.Table.{terms-of, table-of, SoundRow, SoundTable}
 use Rattle.sheet.specs.declared.choose.Pick.{Pick}
 use Rattle.sheet.specs.Marks.{marked, state-of}
 use Rattle.sheet.specs.Choosing.{capped-raise, raised, is-open, chosen}
-use Rattle.sheet.proofs.Mapping.{map-at}
+use Rattle.sheet.proofs.Mapping.{map-at, element}
 use Rattle.sheet.proofs.Smallest.{Best, Holds, Found, Before, choose-found}
 
 some-same : {a b : Bool} → Some a ≡ Some b → a ≡ b
@@ -70,11 +70,6 @@ leading-small (t ∷ f) i h a = let z : suc i - 1 ≡ i = omega arith in subst (
 
 abbrev nobody : Lead
 nobody = record { monomial = record { exponents = [] }; multiplicative = [] }
-
-element : {A : Type 0} (l : List A) (i : ℕ) → i < length l → (x : A) × (x ≡ getD l i x)
-element [] i h = absurd (omega (arith, h))
-element (x ∷ l) zero h = (x, refl)
-element (x ∷ l) (suc i) h = element l i (omega (arith, h))
 
 module _ (S : Setting) (Q : OrderLaws (S .order)) (few : S .variables ≤ width) (rows : List Row) (xs : List (List Bool)) (I : SoundTable S rows) where
   abbrev s : State

@@ -5,3 +5,4 @@ mod Marking
 mod Prolonging
 mod Searching
 mod Smallest
+mod Standing
