@@ -107,22 +107,30 @@ module _ (S : Setting) (W : Lawful S) where
       a : member (leaders T) k ≡ exponents t
       a = lead-at T (k - 1) (omega arith) ∙ e
 
-  new-row : {s : State} {t : Term} {g : Poly} → Sound S s → length (s .rows) < most-rows → Acceptable F O N (t ∷ g) → Irreducible F O (S .division) N (s .rows) (t ∷ g) → Sound S (with-row S s (t ∷ g))
-  new-row {s} {t} {g} I room a i =
+  -- divided by its leading coefficient it is a row, and its leading monomial stays
+  pub monic-leads : (t : Term) (g : Poly) → Acceptable F O N (t ∷ g) → leading (scaled F (F .inv (t .coefficient)) one (t ∷ g)) ≡ exponents t
+  monic-leads t g a = ap (λ m. m .0) (Monomials.unit-mul (exponents t, a .written .over t (List·Memᴰ·head refl) .1))
+
+  pub monic-row : (t : Term) (g : Poly) → Acceptable F O N (t ∷ g) → Row S (scaled F (F .inv (t .coefficient)) one (t ∷ g))
+  monic-row t g a =
       let w = a .written in
       let c : Code F = (t .coefficient, w .over t (List·Memᴰ·head refl) .0) in
       let p : 0 < t .coefficient = w .nonzero t (List·Memᴰ·head refl) in
       let d = Typing.inverse ground c p in
       let b : F .inv (t .coefficient) < F .q = L .inv-below (t .coefficient) p (c .1) in
-      let l : times one (exponents t) ≡ exponents t = ap (λ m. m .0) (Monomials.unit-mul (exponents t, w .over t (List·Memᴰ·head refl) .1)) in
-      let r : Row S n = record {
+      record {
         acceptable = record {
           written = WrittenLists.written-scaled ground (F .inv (t .coefficient)) one (subst (λ x. 0 < x) (d .is) (d .pos)) b Monomials.in-one (t ∷ g) w;
           fits = fits-scaled-one (F .inv (t .coefficient)) (t ∷ g) (w .over) (a .fits);
           short = subst (λ k. k ≤ most-terms) (sym (Values.length-scaled F (F .inv (t .coefficient)) one (t ∷ g))) (a .short);
         };
         monic = L .mul-comm _ _ b (c .1) ∙ L .inverts (t .coefficient) p (c .1);
-      } in
+      }
+
+  pub new-row : {s : State} {t : Term} {g : Poly} → Sound S s → length (s .rows) < most-rows → Acceptable F O N (t ∷ g) → Irreducible F O (S .division) N (s .rows) (t ∷ g) → Sound S (with-row S s (t ∷ g))
+  new-row {s} {t} {g} I room a i =
+      let l = monic-leads t g a in
+      let r : Row S n = monic-row t g a in
       record {
         each = Lists.both (Row S) (s .rows) n (I .each) r;
         few = omega (arith, room, length-append (s .rows) (n ∷ []));

@@ -4,5 +4,6 @@ mod Mapping
 mod Marking
 mod Prolonging
 mod Searching
+mod Settlings
 mod Smallest
 mod Standing

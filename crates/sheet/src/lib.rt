@@ -3,6 +3,7 @@
 // append  a row more
 // choose  the pair that a step takes
 // prolong a row times a variable
+// settle  reducing by the rows and appending what is left
 // table   the rows of a sheet, and the memory for those to come
 // marks   which pairs of a row and a variable are marked
 // flags   which variables are multiplicative for each row
@@ -11,4 +12,5 @@ mod choose;
 mod flags;
 mod marks;
 mod prolong;
+mod settle;
 mod table;
