@@ -16,7 +16,6 @@ use Rattle.involutive.specs.Value.{scaled}
 use Rattle.involutive.specs.Reduction.{Outcome, left, refused}
 use Rattle.involutive.specs.Sheet.{Setting, Lawful, State, most-rows, with-row}
 use Rattle.involutive.specs.Answers.{ReducesTo}
-use Rattle.involutive.specs.Sound.{Sound}
 use Rattle.involutive.proofs.Soundness
 use Rattle.calls.specs.declared.refusal.Refusal.the-variants.{Full}
 use Rattle.reduction.specs.declared.table.Row.{Row}
@@ -36,7 +35,7 @@ pub settle-nothing : {S : Setting} {s : State} {h : Poly} (g : Poly) → length 
 settle-nothing [] e R = nothing R
 settle-nothing (t ∷ g) e R = absurd (omega (arith, e))
 
-module _ (S : Setting) (W : Lawful S) (rows new : List Row) (xs ys : List (List Bool)) (I : SoundTable S rows) (J : Sound S (state-of rows xs)) (h : Poly) (a : Acceptable (S .field) (S .order) (S .variables) h) where
+module _ (S : Setting) (W : Lawful S) (rows new : List Row) (xs ys : List (List Bool)) (I : SoundTable S rows) (h : Poly) (a : Acceptable (S .field) (S .order) (S .variables) h) where
   abbrev s : State
   s = state-of rows xs
 
@@ -47,15 +46,14 @@ module _ (S : Setting) (W : Lawful S) (rows new : List Row) (xs ys : List (List 
   abbrev pub Says : Poly → Bool → ℕ → Type 0
   Says g r len = Over (S .field) (S .variables) g → 0 < leading-coefficient g → Fits (made g) → (r ≡ ltb len most-rows) × When r (Appended (S .division) (made g) (leading g) rows new) (Unit {0})
 
-  pub settle-full : (g : Poly) (len : ℕ) → len ≡ length rows → 0 < length g → ReducesTo S s most-terms h (left g) → Says g false len → Settles S s h (Err Full) s
-  settle-full [] len e p R E = absurd (omega (arith, p))
-  settle-full (t ∷ g) len e p R E =
+  pub settle-full : (g : Poly) (len : ℕ) → len ≡ length rows → len ≤ most-rows → 0 < length g → ReducesTo S s most-terms h (left g) → Says g false len → Settles S s h (Err Full) s
+  settle-full [] len e m p R E = absurd (omega (arith, p))
+  settle-full (t ∷ g) len e m p R E =
       let w = Soundness.reduces-acceptable S W R a .0 in
       let b = E (w .written .over) (w .written .nonzero t (List·Memᴰ·head refl)) (Soundness.monic-row S W t g w .acceptable .fits) .0 in
       let l = ltb-false len most-rows (sym b) in
-      let f = J .few in
       let k = length-map rows terms-of in
-      full R (omega (arith, l, f, k, e))
+      full R (omega (arith, l, m, k, e))
 
   pub settle-appends : (g : Poly) (len : ℕ) → len ≡ length rows → 0 < length g → ((k v : ℕ) → marked ys k v ≡ false) → ReducesTo S s most-terms h (left g) → Says g true len → Settles S s h (Ok Settled·Appended) (state-of new ys) × SoundTable S new
   settle-appends [] len e p m R E = absurd (omega (arith, p))

@@ -6,7 +6,6 @@ ghost use Rattle.monomial.specs.Monomial.{width};
 ghost use Rattle.monomial.specs.Division.{Within};
 ghost use Rattle.polynomial.specs.Check.{Acceptable};
 ghost use Rattle.involutive.specs.Reduction.{refuse};
-ghost use Rattle.involutive.specs.Sound.{Sound};
 ghost use Rattle.calls.specs.Told.{told};
 ghost use Rattle.reduction.specs.Table.{setting, SoundTable};
 ghost use Rattle.reduction.specs.Reducing.{number};
@@ -61,7 +60,7 @@ pub(crate) fn settle<F: Field, O: Order, D: Division>(
     work: &mut Work,
 ) -> Result<Settled, Refusal>
     ensures kept { λ r. ⌜ unless-appended r ((vec-items (now (table .exit) .rows) ≡ vec-items (now (table .entry) .rows)) × (now (marks .exit) ≡ now (marks .entry))) ⌝ }
-    ensures settles { λ r. ⌜ ((n : ℕ) → Within n width → SoundTable (setting (F·Field .meaning (now (field .entry))) (O·Order .meaning (now (order .entry))) (D·Division .meaning (now (division .entry))) n) (vec-items (now (table .entry) .rows)) → Sound (setting (F·Field .meaning (now (field .entry))) (O·Order .meaning (now (order .entry))) (D·Division .meaning (now (division .entry))) n) (state-of (vec-items (now (table .entry) .rows)) (rows-of (now (marks .entry)))) → Acceptable (F·Field .meaning (now (field .entry))) (O·Order .meaning (now (order .entry))) n (vec-items (now (work .entry) .rest .terms)) → Settles (setting (F·Field .meaning (now (field .entry))) (O·Order .meaning (now (order .entry))) (D·Division .meaning (now (division .entry))) n) (state-of (vec-items (now (table .entry) .rows)) (rows-of (now (marks .entry)))) (vec-items (now (work .entry) .rest .terms)) r (state-of (vec-items (now (table .exit) .rows)) (rows-of (now (marks .exit)))) × SoundTable (setting (F·Field .meaning (now (field .entry))) (O·Order .meaning (now (order .entry))) (D·Division .meaning (now (division .entry))) n) (vec-items (now (table .exit) .rows))) ⌝ }
+    ensures settles { λ r. ⌜ ((n : ℕ) → Within n width → SoundTable (setting (F·Field .meaning (now (field .entry))) (O·Order .meaning (now (order .entry))) (D·Division .meaning (now (division .entry))) n) (vec-items (now (table .entry) .rows)) → Acceptable (F·Field .meaning (now (field .entry))) (O·Order .meaning (now (order .entry))) n (vec-items (now (work .entry) .rest .terms)) → Settles (setting (F·Field .meaning (now (field .entry))) (O·Order .meaning (now (order .entry))) (D·Division .meaning (now (division .entry))) n) (state-of (vec-items (now (table .entry) .rows)) (rows-of (now (marks .entry)))) (vec-items (now (work .entry) .rest .terms)) r (state-of (vec-items (now (table .exit) .rows)) (rows-of (now (marks .exit)))) × SoundTable (setting (F·Field .meaning (now (field .entry))) (O·Order .meaning (now (order .entry))) (D·Division .meaning (now (division .entry))) n) (vec-items (now (table .exit) .rows))) ⌝ }
 {
     match reduce_within(
         field,

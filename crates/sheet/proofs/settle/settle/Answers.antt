@@ -1,6 +1,6 @@
 use mathlib.Core.Path.{_≡_, refl, sym, _∙_, ap, subst}
 use mathlib.Core.List.{List}
-use Prim.Native.Nat.{ℕ, _<_}
+use Prim.Native.Nat.{ℕ, _≤_, _<_}
 use native.Mathlib.Omega.{arith}
 use borrow.Author.Needs.{needs}
 use lib.ListN.{length}
@@ -22,7 +22,7 @@ use Rattle.sheet.proofs.settle.settle.Needs as need
 pub returns-then-is-empty : need.returns-then-is-empty
 returns-then-is-empty g c = record {
   kept = (refl, refl);
-  settles = λ n w I J a.
+  settles = λ n w I a.
       let S = setting (g .F·Field .meaning (c .args .field .now)) (g .O·Order .meaning (c .args .order .now)) (g .D·Division .meaning (c .args .division .now)) n in
       let xs = rows-of (c .args .marks .now) in
       let R = at-rows {S = S} xs (c .as-slice .ensures .value) I a (c .in-Ok .ensures tt (S .division) n) in
@@ -33,7 +33,7 @@ returns-then-is-empty g c = record {
 pub returns-then-not-append : need.returns-then-not-append
 returns-then-not-append g c = record {
   kept = (c .if-not-append .ensures tt .kept, refl);
-  settles = λ n w I J a.
+  settles = λ n w I a.
       let S = setting (g .F·Field .meaning (c .args .field .now)) (g .O·Order .meaning (c .args .order .now)) (g .D·Division .meaning (c .args .division .now)) n in
       let W : Lawful S = record { field = g .F·Field·met .laws (c .args .field .now); order = g .O·Order·met .laws (c .args .order .now); division = g .D·Division·met .laws (c .args .division .now); variables = w } in
       let xs = rows-of (c .args .marks .now) in
@@ -44,13 +44,14 @@ returns-then-not-append g c = record {
       let Q : ReducesTo S (state-of rows xs) most-terms h (left L) = subst (λ x. ReducesTo S (state-of rows xs) most-terms h (left x)) (sym (c .as-slice-left .ensures .value)) R in
       let z = eqb-false (length L) 0 (sym (c .if-is-empty .ensures tt)) in
       let k : vec-len (c .args .table .now .rows) ≡ length rows = search needs in
-      subst (λ (x : List Row). Settles S (state-of rows xs) h (Err Full) (state-of x xs) × SoundTable S x) (sym (c .if-not-append .ensures tt .kept)) (settle-full S W rows (vec-items (c .append .last .table .rows)) xs xs I J h a L (vec-len (c .args .table .now .rows)) k (omega (arith, z)) Q (c .if-not-append .ensures tt .rows n), I);
+      let m : vec-len (c .args .table .now .rows) ≤ 32 = search needs in
+      subst (λ (x : List Row). Settles S (state-of rows xs) h (Err Full) (state-of x xs) × SoundTable S x) (sym (c .if-not-append .ensures tt .kept)) (settle-full S W rows (vec-items (c .append .last .table .rows)) xs xs I h a L (vec-len (c .args .table .now .rows)) k m (omega (arith, z)) Q (c .if-not-append .ensures tt .rows n), I);
 }
 
 pub returns-in-Err : need.returns-in-Err
 returns-in-Err g c = record {
   kept = (refl, refl);
-  settles = λ n w I J a.
+  settles = λ n w I a.
       let S = setting (g .F·Field .meaning (c .args .field .now)) (g .O·Order .meaning (c .args .order .now)) (g .D·Division .meaning (c .args .division .now)) n in
       let xs = rows-of (c .args .marks .now) in
       let R = at-rows {S = S} xs (c .as-slice .ensures .value) I a (c .in-Err .ensures tt (S .division) n) in
@@ -60,7 +61,7 @@ returns-in-Err g c = record {
 pub returns-else-not-append : need.returns-else-not-append
 returns-else-not-append g c = record {
   kept = tt;
-  settles = λ n w I J a.
+  settles = λ n w I a.
       let S = setting (g .F·Field .meaning (c .args .field .now)) (g .O·Order .meaning (c .args .order .now)) (g .D·Division .meaning (c .args .division .now)) n in
       let W : Lawful S = record { field = g .F·Field·met .laws (c .args .field .now); order = g .O·Order·met .laws (c .args .order .now); division = g .D·Division·met .laws (c .args .division .now); variables = w } in
       let xs = rows-of (c .args .marks .now) in
@@ -71,5 +72,5 @@ returns-else-not-append g c = record {
       let Q : ReducesTo S (state-of rows xs) most-terms h (left L) = subst (λ x. ReducesTo S (state-of rows xs) most-terms h (left x)) (sym (c .as-slice-left .ensures .value)) R in
       let z = eqb-false (length L) 0 (sym (c .if-is-empty .ensures tt)) in
       let k : vec-len (c .args .table .now .rows) ≡ length rows = search needs in
-      settle-appends S W rows (vec-items (c .append .last .table .rows)) xs (rows-of (c .none .result)) I J h a L (vec-len (c .args .table .now .rows)) k (omega (arith, z)) (c .none .ensures) Q (c .if-not-append .ensures tt .rows n);
+      settle-appends S W rows (vec-items (c .append .last .table .rows)) xs (rows-of (c .none .result)) I h a L (vec-len (c .args .table .now .rows)) k (omega (arith, z)) (c .none .ensures) Q (c .if-not-append .ensures tt .rows n);
 }
