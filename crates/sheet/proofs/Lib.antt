@@ -1,3 +1,4 @@
+mod Additions
 mod Appending
 mod Choosings
 mod Mapping

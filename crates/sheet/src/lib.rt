@@ -3,6 +3,7 @@
 // append  a row more
 // choose  the pair that a step takes
 // prolong a row times a variable
+// sheet   a sheet and its calls
 // settle  reducing by the rows and appending what is left
 // table   the rows of a sheet, and the memory for those to come
 // marks   which pairs of a row and a variable are marked
@@ -13,4 +14,5 @@ mod flags;
 mod marks;
 mod prolong;
 mod settle;
+mod sheet;
 mod table;
