@@ -8,6 +8,8 @@
 // choose   the field, the order and the division of a problem
 // problem  what a command file poses
 // timing   how long a repeated piece of work takes
+#![tactic(auto)]
+
 mod choose;
 mod figures;
 mod problem;

@@ -2,7 +2,7 @@
 ghost use Rattle.std.specs.Prelude.{◌≡◌, ◌≤◌, length, MatchResult, OnErr};
 ghost use Rattle.involutive.specs.Sheet.{Setting, Lawful, State};
 ghost use Rattle.involutive.specs.Answers.{Adds, Steps, Remains, Shows, FairCopies, Judges};
-ghost use Rattle.involutive.specs.Log as log-of;
+ghost use Rattle.involutive.specs.Log as log_of;
 ghost use Rattle.involutive.specs.Sound.{Sound};
 ghost use Rattle.calls.specs.Logs.{LoggedAdd, Logged};
 ghost use Rattle.calls.specs.Told.{added, stepped, wrote, copied, judged};
@@ -28,14 +28,14 @@ pub trait Calls {
         ensures refused { OnErr result (state self.new ≡ state self.old) }
         ensures stays { sound self.old → sound self.new }
         ensures answer { sound self.old → Adds (setting self.old) (state self.old) f.now (added result) (state self.new) }
-        ensures logged { sound self.old → LoggedAdd (setting self.old) (log-of.add f.now) f.now (added result) (state self.old) (state self.new) };
+        ensures logged { sound self.old → LoggedAdd (setting self.old) (log_of.add f.now) f.now (added result) (state self.old) (state self.new) };
 
     fn step(&mut self) -> Result<Step, Refusal>
         ensures kept { setting self.new ≡ setting self.old }
         ensures refused { OnErr result (state self.new ≡ state self.old) }
         ensures stays { sound self.old → sound self.new }
         ensures answer { sound self.old → Steps (setting self.old) (state self.old) (stepped result) (state self.new) }
-        ensures logged { sound self.old → Logged (setting self.old) log-of.step (state self.old) (state self.new) };
+        ensures logged { sound self.old → Logged (setting self.old) log_of.step (state self.old) (state self.new) };
 
     fn remainder(&mut self, f: &[Term], out: &mut [Term]) -> Result<usize, Refusal>
         ensures kept { setting self.new ≡ setting self.old }
@@ -43,12 +43,12 @@ pub trait Calls {
         ensures stays { sound self.old → sound self.new }
         ensures within { MatchResult result (λ n. n ≤ length out.old) (λ _. out.new ≡ out.old) }
         ensures answer { sound self.old → Remains (setting self.old) (state self.old) f.now out.old (wrote result) out.new }
-        ensures logged { sound self.old → Logged (setting self.old) (log-of.remainder f.now out.old) (state self.old) (state self.new) };
+        ensures logged { sound self.old → Logged (setting self.old) (log_of.remainder f.now out.old) (state self.old) (state self.new) };
 
     fn row(&self, number: usize, out: &mut [Term]) -> Result<usize, Refusal>
         ensures within { MatchResult result (λ n. n ≤ length out.old) (λ _. out.new ≡ out.old) }
         ensures answer { sound self.now → Shows (setting self.now) (state self.now) number out.old (wrote result) out.new }
-        ensures logged { sound self.now → Logged (setting self.now) (log-of.show_row number out.old) (state self.now) (state self.now) };
+        ensures logged { sound self.now → Logged (setting self.now) (log_of.show_row number out.old) (state self.now) (state self.now) };
 
     fn fair_copy(&mut self, out: &mut [u8]) -> Result<Copied, Refusal>
         ensures kept { setting self.new ≡ setting self.old }
@@ -56,11 +56,11 @@ pub trait Calls {
         ensures stays { sound self.old → sound self.new }
         ensures within { MatchResult result (λ c. c.bytes ≤ length out.old) (λ _. out.new ≡ out.old) }
         ensures answer { sound self.old → FairCopies (setting self.old) (state self.old) out.old (copied result) out.new }
-        ensures logged { sound self.old → Logged (setting self.old) (log-of.fair_copy out.old) (state self.old) (state self.new) };
+        ensures logged { sound self.old → Logged (setting self.old) (log_of.fair_copy out.old) (state self.old) (state self.new) };
 
     fn verdict(&self) -> Result<usize, Refusal>
         ensures answer { sound self.now → Judges (setting self.now) (state self.now) (judged result) }
-        ensures logged { sound self.now → Logged (setting self.now) log-of.verdict (state self.now) (state self.now) };
+        ensures logged { sound self.now → Logged (setting self.now) log_of.verdict (state self.now) (state self.now) };
 
     ghost lawful: { (x : Self) → Lawful (setting x) };
 

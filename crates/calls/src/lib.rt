@@ -3,6 +3,8 @@
 // refusal  why a call is denied
 // answer   what a granted step and a granted fair copy tell
 // calls    the six calls, by the definitions of what they answer and leave
+#![tactic(auto)]
+
 pub mod answer;
 pub mod calls;
 pub mod refusal;

@@ -2,6 +2,8 @@
 //
 // It reads four files in the folder that it is run in; data/ has them. Each is a list of cases: a line `case NAME`, a line
 // `in HEX` with the command file in hexadecimal, and a line `out LINE` for each line that the transcript must have.
+#![tactic(auto)]
+
 use anyhow::anyhow;
 use replay::transcript::transcript;
 use std::alloc::{AllocError, Global};

@@ -1,7 +1,7 @@
 -- Which numbers stand in the list of primes, and what a search through it finds.
 use Rattle.std.specs.Prelude.{◌≡◌, ℕ, zero, suc, ◌+◌, ◌%◌, ◌<◌, ◌≤◌, Bool, true, false, cond, not, List, [], ◌∷◌, length, drop, ◌==◌, ◌≢◌, nat_le, nat_lt, slice_index, refl}
 use Rattle.std.proofs.Common.{sym, ◌∙◌, ⊎_elim, not-suc-le-zero, le_of_suc-le-suc, add-one, arith, drop-cons}
-use Rattle.std.proofs.lemmas.Bool.{not_true, not_from_false, ltb-true, leb-true, eqb-false, lt-ltb, le-ltb, eq-eqb, ne_eqb, cases_lt, cases_Bool, cond-true, cond-false}
+use Rattle.std.proofs.lemmas.Bool.{not-true, not_from_false, ltb-true, leb-true, eqb-false, lt-ltb, le-ltb, eq-eqb, ne_eqb, cases_lt, cases_Bool, cond-true, cond-false}
 use Rattle.field.specs.Primes.{stands_in, primes, listed, PrimeUpTo251, ListedAreThePrimes}
 use Rattle.field.specs.Computed.{both_parts, both_from, every_below, at_below, every_below_from, every_of, at_of}
 
@@ -18,7 +18,7 @@ same false b = not b
 
 same_equal : (a b : Bool) → same a b ≡ true → a ≡ b
 same_equal true b t = sym t
-same_equal false b t = sym (not_true b t)
+same_equal false b t = sym (not-true b t)
 
 all_tested : every_below (λ p. same (listed p) (prime_test p)) 252 ≡ true
 unfolding listed
@@ -28,7 +28,7 @@ listed_is_test : (p : ℕ) → p ≤ 251 → listed p ≡ prime_test p
 listed_is_test p h = same_equal (listed p) (prime_test p) (at_below (λ p. same (listed p) (prime_test p)) 252 all_tested p (omega arith))
 
 spares_means : (p d : ℕ) → spares p d ≡ true → 2 ≤ d → p % d ≢ 0
-spares_means p d t h = eqb-false (p % d) 0 (not_true (p % d == 0) (sym (cond-false (nat_lt d 2) true (not (p % d == 0)) (le-ltb d 2 h)) ∙ t))
+spares_means p d t h = eqb-false (p % d) 0 (not-true (p % d == 0) (sym (cond-false (nat_lt d 2) true (not (p % d == 0)) (le-ltb d 2 h)) ∙ t))
 
 spares_from : (p d : ℕ) → (2 ≤ d → p % d ≢ 0) → spares p d ≡ true
 spares_from p d ne =

@@ -4,6 +4,8 @@
 //
 //   prime    the integers modulo a prime up to 251
 //   four     the field of four elements
+#![tactic(auto)]
+
 pub mod four;
 pub mod prime;
 #[cfg(test)]

@@ -1,4 +1,6 @@
 // Carries out a command file from standard input and prints its transcript.
+#![tactic(auto)]
+
 use anyhow::anyhow;
 use replay::transcript::{MOST_INPUT, transcript};
 use std::io::{Read, Write};

@@ -7,7 +7,7 @@ use Rattle.field.specs.Field.{FieldMeaning, FieldLaws}
 use Rattle.monomial.specs.Monomial.{In, Bounded, Wide}
 use Rattle.polynomial.specs.Check.{Fits, largest_exponent}
 use Rattle.involutive.specs.Value
-use Rattle.polynomial.specs.Polynomial.{Poly, exponents, Over, Falling, more as more-terms, Written, none, single}
+use Rattle.polynomial.specs.Polynomial.{Poly, exponents, Over, Falling, more as more_terms, Written, none, single}
 use Rattle.involutive.specs.Value.{Equal, scaled}
 use Rattle.monomial.specs.Order.{Compare, OrderLaws, Under}
 use Rattle.std.specs.Ordering.{ordering_reverse}
@@ -72,7 +72,7 @@ module _ (ground : Ground) where
   not_zero c h e = let z : c.0 ≡ 0 = ap (λ x. x.0) e in omega arith
 
   falling_parts : {t s : Term} {f : Poly} → Falling O (t ∷ s ∷ f) → Under O (exponents s) (exponents t) × Falling O (s ∷ f)
-  falling_parts (more-terms h f) = (h, f)
+  falling_parts (more_terms h f) = (h, f)
 
   sorted : (t : Code F × Mono N) (f : Typed) → Falling O (raw (t ∷ f)) → ((s : Term) → Memᴰ s (raw (t ∷ f)) → 0 < s.coefficient) → Algebra.Sorted B (Beneath N O) (t ∷ f)
   sorted t [] h n = Algebra.more_sorted (not_zero t.0 (n _ (Memᴰ.head refl))) Algebra.none_below Algebra.none_sorted
@@ -87,7 +87,7 @@ module _ (ground : Ground) where
 
   falls : (t : Code F × Mono N) (f : Typed) → Algebra.Below B (Beneath N O) t.1 f → Falling O (raw f) → Falling O (raw (t ∷ f))
   falls t [] b r = single
-  falls t (s ∷ f) (Algebra.more_below h b) r = more-terms h r
+  falls t (s ∷ f) (Algebra.more_below h b) r = more_terms h r
 
   sorted_nonzero : {f : Typed} → Algebra.Sorted B (Beneath N O) f → (t : Term) → Memᴰ t (raw f) → 0 < t.coefficient
   sorted_nonzero Algebra.none_sorted t h = elim h [ ]
@@ -134,7 +134,7 @@ module _ (ground : Ground) where
   falling_scaled : (c : ℕ) (a : List ℕ) → In N a → {f : Poly} → Over F N f → Falling O f → Falling O (scaled F c a f)
   falling_scaled c a w o none = none
   falling_scaled c a w o single = single
-  falling_scaled c a w o (more-terms {t = t} {s = s} h f) = more-terms (Q.factor a (exponents s) (exponents t) w.wide (o s (Memᴰ.tail (Memᴰ.head refl))).1.wide (o t (Memᴰ.head refl)).1.wide ∙ h) (falling_scaled c a w (λ x k. o x (Memᴰ.tail k)) f)
+  falling_scaled c a w o (more_terms {t = t} {s = s} h f) = more_terms (Q.factor a (exponents s) (exponents t) w.wide (o s (Memᴰ.tail (Memᴰ.head refl))).1.wide (o t (Memᴰ.head refl)).1.wide ∙ h) (falling_scaled c a w (λ x k. o x (Memᴰ.tail k)) f)
 
   pub written_scaled : (c : ℕ) (a : List ℕ) → 0 < c → c < F.q → In N a → (f : Poly) → Written F O N f → Written F O N (scaled F c a f)
   written_scaled c a p h w f v = record {

@@ -7,7 +7,7 @@ use Rattle.monomial.specs.Division.{Within}
 use Rattle.polynomial.specs.declared.term.Term.{Term}
 use Rattle.polynomial.specs.declared.refusal.Refusal.{Refusal as Fault}
 use Rattle.polynomial.specs.Polynomial.{Poly, leading}
-use Rattle.polynomial.specs.Check.{Fits, fault, most_terms, number as fault-number, place as fault_place}
+use Rattle.polynomial.specs.Check.{Fits, fault, most_terms, number as fault_number, place as fault_place}
 use Rattle.polynomial.specs.Bytes.{copy_bytes}
 use Rattle.involutive.specs.Value.{unit}
 use Rattle.involutive.specs.Ideal.{Member}
@@ -32,7 +32,7 @@ abbrev pub first_fault : Setting → Poly → Option Fault
 first_fault S f = fault S.field S.order S.variables f
 
 abbrev pub fault_refusal : Fault → Refusal
-fault_refusal q = refuse (fault-number q) (fault_place q)
+fault_refusal q = refuse (fault_number q) (fault_place q)
 
 -- terms or bytes go to the front of what the caller lent, and those behind stay
 abbrev pub front : {A : Type 0} → List A → List A → List A

@@ -15,6 +15,8 @@
 //   Examples   sheets that exist
 //
 // Each theorem is the contract of a function below, which answers 0; nobody needs to call it.
+#![tactic(auto)]
+
 ghost use Rattle.involutive.specs.Once.{OneAnswerEach, OneState};
 ghost use Rattle.involutive.specs.Sound.{SoundnessKept};
 ghost use Rattle.involutive.specs.Complete.{CompleteTables, Verdict};

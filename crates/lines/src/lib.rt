@@ -1,4 +1,6 @@
 // The lines that a replay writes: fields in decimal and lower-case hexadecimal, one space between them.
+#![tactic(auto)]
+
 ghost use Rattle.std.specs.Prelude.{◌≡◌, ◌<◌, false, [], ◌∷◌, ◌++◌, length, codes, decimal, OnOk};
 ghost use Rattle.std.specs.Fmt.{digit_glyph};
 ghost use Rattle.polynomial.specs.Bytes.{poly_bytes};

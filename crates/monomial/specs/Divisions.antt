@@ -3,7 +3,7 @@ use Rattle.std.specs.Prelude.{◌≡◌, ℕ, zero, suc, ◌+◌, ◌-◌, ◌<�
 use Rattle.std.proofs.Common.{sym, ◌∙◌, ap, subst, inl, inr, arith, length-set, get_or-set_same, get_or-set_other}
 use Rattle.std.proofs.Math.Decide.{ℕ_discrete, dec_lt, dec_le}
 use Rattle.std.proofs.lemmas.List.{length-map, get_or-map}
-use Rattle.std.proofs.lemmas.Bool.{and_parts, and_from, and_cases, or_parts, or_cases, cases_Bool, both_ways, leb-true, leb-false, le-leb, lt-leb, not_true, not-false, eq-eqb}
+use Rattle.std.proofs.lemmas.Bool.{and_parts, and_from, and_cases, or_parts, or_cases, cases_Bool, both_ways, leb-true, leb-false, le-leb, lt-leb, not-true, not-false, eq-eqb}
 use Rattle.monomial.specs.declared.Monomial.{Monomial}
 use Rattle.monomial.specs.Lists.{exponents_of}
 use Rattle.monomial.specs.Monomial.{Wide, width, same, exponent, variable, one, times, Divides, quotient}
@@ -44,7 +44,7 @@ largest_gives : (among : List ℕ → Bool) (U : List (List ℕ)) (v : ℕ) (u :
 largest_gives among [] v u e i h t = absurd (omega arith)
 largest_gives among (w ∷ U) v u e zero h t =
     elim (or_cases (not (among w)) (nat_le (exponent w v) (exponent u v)) (and_parts (not (among w) || nat_le (exponent w v) (exponent u v)) (largest among U v u) e).0) [
-      | inl n ↦ absurd (both_ways (among w) (not_true (among w) n) t)
+      | inl n ↦ absurd (both_ways (among w) (not-true (among w) n) t)
       | inr l ↦ leb-true (exponent w v) (exponent u v) l
     ]
 largest_gives among (w ∷ U) v u e (suc i) h t =

@@ -1,7 +1,7 @@
 // Janet's division: a variable is multiplicative for u where its exponent in u is the largest among the members that
 // agree with u in all variables before it.
 ghost use Rattle.std.specs.Prelude.{◌≡◌};
-ghost use Rattle.monomial.specs.Division.{janet as by-janet};
+ghost use Rattle.monomial.specs.Division.{janet as by_janet};
 ghost use Rattle.monomial.specs.Divisions.{janet_laws};
 
 use crate::Monomial;
@@ -15,7 +15,7 @@ impl Division for Janet {
 
     ghost number = { 1 };
 
-    ghost meaning = { λ _. by-janet };
+    ghost meaning = { λ _. by_janet };
 
     ghost laws = { λ x. janet_laws };
 

@@ -6,8 +6,10 @@
 // degree_reverse
 // division           the interface of a division: meaning and laws
 // janet, thomas      the two divisions
+#![tactic(auto)]
+
 ghost use Rattle.std.specs.Prelude.{◌≡◌, ℕ, ◌+◌, ◌<◌, ◌≤◌, Decides, MatchOption};
-ghost use Rattle.monomial.specs.Monomial.{Bounded, Divides, degree as degree-of, same, times, quotient as divided};
+ghost use Rattle.monomial.specs.Monomial.{Bounded, Divides, degree as degree_of, same, times, quotient as divided};
 
 pub mod degree_lexicographic;
 pub mod degree_reverse;
@@ -72,7 +74,7 @@ impl Monomial {
 
     // The sum of the exponents.
     pub fn degree(&self) -> u16
-        ensures { result ≡ degree-of self.now.exponents }
+        ensures { result ≡ degree_of self.now.exponents }
     {
         let mut sum = 0;
         for i in 0..WIDTH {

@@ -1,6 +1,6 @@
 // Thomas's division: a variable is multiplicative for u where its exponent in u is the largest among all members.
 ghost use Rattle.std.specs.Prelude.{◌≡◌};
-ghost use Rattle.monomial.specs.Division.{thomas as by-thomas};
+ghost use Rattle.monomial.specs.Division.{thomas as by_thomas};
 ghost use Rattle.monomial.specs.Divisions.{thomas_laws};
 
 use crate::Monomial;
@@ -14,7 +14,7 @@ impl Division for Thomas {
 
     ghost number = { 2 };
 
-    ghost meaning = { λ _. by-thomas };
+    ghost meaning = { λ _. by_thomas };
 
     ghost laws = { λ x. thomas_laws };
 

@@ -4,6 +4,8 @@
 // refusal  why a polynomial that is handed over is refused
 // check    the checks on a polynomial that is handed over
 // bytes    reading and writing terms as bytes
+#![tactic(auto)]
+
 pub mod bytes;
 pub mod check;
 pub mod refusal;

@@ -7,6 +7,8 @@
 // scale     a multiple of a polynomial
 // subtract  subtracting a multiple of a row
 // reduce    reducing until no term has a divisor
+#![tactic(auto)]
+
 pub mod buffer;
 mod merge;
 pub mod reduce;

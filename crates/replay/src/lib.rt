@@ -5,6 +5,8 @@
 // play        the commands after the making, one after the other
 // choose      the making: field, order and division by their codes
 // transcript  a whole command file and its transcript
+#![tactic(auto)]
+
 mod choose;
 pub mod command;
 mod play;

@@ -1,7 +1,7 @@
 // The line of each answer.
 ghost use Rattle.std.specs.Prelude.{◌≡◌, ◌≤◌, [], ◌++◌, length, IfOk, OnOk};
 ghost use Rattle.std.specs.Option.{option_map};
-ghost use Rattle.calls.specs.Told.{told, added, wrote, copied as copied-as, judged};
+ghost use Rattle.calls.specs.Told.{told, added, wrote, copied as copied_as, judged};
 ghost use Rattle.lines.specs.Line.{line};
 ghost use Rattle.replay.specs.Words.{answered, shown, copied, stepped, refused_line};
 
@@ -93,7 +93,7 @@ pub(crate) fn write_copied(
     bytes: &[u8],
 ) -> Result<(), AllocError>
     requires { IfOk answer (λ c. c.bytes ≤ length bytes.now) }
-    ensures { OnOk result (out.new.items ≡ out.old.items ++ copied at (copied-as answer) bytes.now) }
+    ensures { OnOk result (out.new.items ≡ out.old.items ++ copied at (copied_as answer) bytes.now) }
 {
     match answer {
         Ok(done) => {

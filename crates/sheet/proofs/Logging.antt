@@ -4,7 +4,7 @@ use Rattle.polynomial.specs.Polynomial.{Poly}
 use Rattle.involutive.specs.Sheet.{Setting, Lawful, State}
 use Rattle.involutive.specs.Answers.{Answer, Adds, Steps}
 use Rattle.involutive.specs.Log.{Call, After}
-use Rattle.involutive.specs.Log as log-of
+use Rattle.involutive.specs.Log as log_of
 use Rattle.involutive.proofs.Soundness
 use Rattle.calls.specs.declared.refusal.Refusal.{Refusal}
 use Rattle.calls.specs.Told.{added}
@@ -15,7 +15,7 @@ use Rattle.sheet.specs.declared.marks.Marks.{Marks}
 use Rattle.sheet.specs.Marks.{rows_of, state_of}
 use Rattle.sheet.specs.Whole.{Whole}
 
-log_add : {S : Setting} {s s' : State} {f : Poly} (r : Result ℕ Refusal) → Adds S s f (added r) s' → LoggedAdd S (log-of.add f) f (added r) s s'
+log_add : {S : Setting} {s s' : State} {f : Poly} (r : Result ℕ Refusal) → Adds S s f (added r) s' → LoggedAdd S (log_of.add f) f (added r) s s'
 log_add (Ok n) d calls gs a = After.added a d
 log_add (Err e) d calls gs a = After.not_added a d
 
@@ -23,7 +23,7 @@ module _ (S : Setting) (W : Lawful S) (rows rows' : List Row) (xs xs' : List (Li
   pub record Added (f : Poly) (r : Result ℕ Refusal) : Type 0 where
     pub stays : Whole S rows xs → Whole S rows' xs'
     pub answer : Whole S rows xs → Adds S (state_of rows xs) f (added r) (state_of rows' xs')
-    pub logged : Whole S rows xs → LoggedAdd S (log-of.add f) f (added r) (state_of rows xs) (state_of rows' xs')
+    pub logged : Whole S rows xs → LoggedAdd S (log_of.add f) f (added r) (state_of rows xs) (state_of rows' xs')
 
   pub add_promise : (f : Poly) (r : Result ℕ Refusal) → (Whole S rows xs → Adds S (state_of rows xs) f (added r) (state_of rows' xs') × SoundTable S rows') → Added f r
   add_promise f r q = record { stays = λ I. record { table = (q I).1; state = Soundness.adds S W I.state (q I).0 }; answer = λ I. (q I).0; logged = λ I. log_add r (q I).0 }

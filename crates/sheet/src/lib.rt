@@ -17,6 +17,8 @@
 // select   the rows of a fair copy
 // copy     the fair copy as bytes
 // unit     whether a row leads with 1
+#![tactic(auto)]
+
 mod append;
 mod choose;
 mod copy;

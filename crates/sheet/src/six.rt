@@ -1,5 +1,5 @@
 // The six calls of a sheet.
-ghost use Rattle.reduction.specs.Table.{setting as setting-of};
+ghost use Rattle.reduction.specs.Table.{setting as setting_of};
 ghost use Rattle.sheet.specs.Marks.{rows_of, state_of};
 ghost use Rattle.sheet.specs.Whole.{Whole};
 
@@ -21,11 +21,11 @@ use polynomial::term::Term;
 use reduction::reduce::reduce_within;
 
 impl<F: Field, O: Order, D: Division> Calls for Sheet<F, O, D> {
-    ghost setting = { λ x. setting-of (F.Field.meaning x.field) (O.Order.meaning x.order) (D.Division.meaning x.division) x.variables };
+    ghost setting = { λ x. setting_of (F.Field.meaning x.field) (O.Order.meaning x.order) (D.Division.meaning x.division) x.variables };
 
     ghost state = { λ x. state_of x.table.rows.items (rows_of x.marks) };
 
-    ghost sound = { λ x. Whole (setting-of (F.Field.meaning x.field) (O.Order.meaning x.order) (D.Division.meaning x.division) x.variables) x.table.rows.items (rows_of x.marks) };
+    ghost sound = { λ x. Whole (setting_of (F.Field.meaning x.field) (O.Order.meaning x.order) (D.Division.meaning x.division) x.variables) x.table.rows.items (rows_of x.marks) };
 
     ghost lawful = { λ x. record { field = F.Field.laws x.field; order = O.Order.laws x.order; division = D.Division.laws x.division; variables = (x.some, x.few) } };
 

@@ -1,4 +1,6 @@
 // Shows a stored table from standard input: a line on the setting, then a line for each row.
+#![tactic(auto)]
+
 use anyhow::anyhow;
 use std::io::Read;
 use stored::fault::Fault;

@@ -3,6 +3,8 @@
 // fault    what is wrong with a stored table
 // record   the records of a stored table
 // text     a table as people write it
+#![tactic(auto)]
+
 pub mod fault;
 mod record;
 mod rows;

@@ -1,7 +1,7 @@
 // A table as people write it.
 ghost use Rattle.std.specs.Prelude.{◌≡◌, false, ◌||◌, ◌++◌, string_bytes, OnOk};
 ghost use Rattle.monomial.specs.Lists.{exponents_of};
-ghost use Rattle.stored.specs.Text.{power_text, factor_text, powers_text, has_coefficient as shows-coefficient, term_text, poly_text, variable_text, variables_text, says_yes, row_text};
+ghost use Rattle.stored.specs.Text.{power_text, factor_text, powers_text, has_coefficient as shows_coefficient, term_text, poly_text, variable_text, variables_text, says_yes, row_text};
 
 use monomial::division::Division;
 use monomial::{Monomial, WIDTH};
@@ -57,7 +57,7 @@ fn write_powers(out: &mut String, mut started: bool, monomial: &Monomial) -> fmt
 
 // The coefficient is written unless it is 1 before a power.
 fn has_coefficient(term: &Term) -> bool
-    ensures { result ≡ shows-coefficient term.now }
+    ensures { result ≡ shows_coefficient term.now }
 {
     term.monomial.degree() == 0 || term.coefficient != 1
 }

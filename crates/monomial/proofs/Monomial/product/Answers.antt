@@ -3,14 +3,14 @@ use Rattle.monomial.specs.Monomial.{Wide, Bounded, times}
 use Rattle.monomial.specs.Places.{at_times, not_bounded, bounded_from_places, product_from_places}
 use Rattle.monomial.proofs.Monomial.product.Goals as goal
 
-pub returns-in-err-exponents : goal.returns-in-err-exponents
-returns-in-err-exponents c =
+pub returns-in_err-exponents : goal.returns-in_err-exponents
+returns-in_err-exponents c =
     let a = c.args.self.now.exponents in
     let b = c.args.other.now.exponents in
     let wa : Wide a = search rules in
     let wb : Wide b = search rules in
-    rw c.from-residual.ensures
-    (not_bounded 255 (times a b) c.loop-i.i (omega (arith, at_times a b (omega arith) c.loop-i.i, c.in-err-exponents.ensures)))
+    rw c.from_residual.ensures
+    (not_bounded 255 (times a b) c.loop-i.i (omega (arith, at_times a b (omega arith) c.loop-i.i, c.in_err-exponents.ensures)))
 
 pub returns : goal.returns
 returns c =

@@ -3,10 +3,10 @@ use Rattle.monomial.specs.Monomial.{Wide}
 use Rattle.monomial.specs.Places.{not_divides, divides_from_places, quotient_from_places}
 use Rattle.monomial.proofs.Monomial.quotient.Goals as goal
 
-pub returns-in-err-exponents : goal.returns-in-err-exponents
-returns-in-err-exponents c =
-    rw c.from-residual.ensures
-    (not_divides c.args.divisor.now.exponents c.args.self.now.exponents c.loop-i.i (omega (arith, c.in-err-exponents.ensures)))
+pub returns-in_err-exponents : goal.returns-in_err-exponents
+returns-in_err-exponents c =
+    rw c.from_residual.ensures
+    (not_divides c.args.divisor.now.exponents c.args.self.now.exponents c.loop-i.i (omega (arith, c.in_err-exponents.ensures)))
 
 pub returns : goal.returns
 returns c =

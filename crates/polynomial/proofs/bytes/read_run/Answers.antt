@@ -11,10 +11,10 @@ pub loop-term-smaller : goal.loop-term-smaller
 loop-term-smaller c = behind_shorter c.loop-term.rest.now c.in-Term.behind.now c.in-Term.term c.in-Term.ensures.1
 
 pub loop-term-preserved : goal.loop-term-preserved
-loop-term-preserved c = run_more c.args.input.now c.loop-term.rest.now c.in-Term.behind.now (vec_items c.loop-term.terms) (vec_items c.push.new.self) c.in-Term.term c.loop-term.invariant c.in-Term.ensures (pushed_term (vec_items c.loop-term.terms) (vec_items c.push.new.self) c.in-Term.term c.push.result c.push.ensures.items c.if-is-err.ensures.negation)
+loop-term-preserved c = run_more c.args.input.now c.loop-term.rest.now c.in-Term.behind.now (vec_items c.loop-term.terms) (vec_items c.push.new.self) c.in-Term.term c.loop-term.invariant c.in-Term.ensures (pushed_term (vec_items c.loop-term.terms) (vec_items c.push.new.self) c.in-Term.term c.push.result c.push.ensures.items c.if-is_err.ensures.negation)
 
-pub overflow-sub-result : goal.overflow-sub-result
-overflow-sub-result c = omega (arith, run_within c.args.input.now c.loop-term.rest.now (vec_items c.loop-term.terms) c.loop-term.invariant.1)
+pub overflow_sub-result : goal.overflow_sub-result
+overflow_sub-result c = omega (arith, run_within c.args.input.now c.loop-term.rest.now (vec_items c.loop-term.terms) c.loop-term.invariant.1)
 
 pub returns-in-Other : goal.returns-in-Other
 returns-in-Other c =

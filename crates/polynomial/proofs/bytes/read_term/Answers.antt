@@ -5,8 +5,8 @@ use Rattle.polynomial.proofs.bytes.read_term.Goals as goal
 pub returns-else-behind-lt-WIDTH : goal.returns-else-behind-lt-WIDTH
 returns-else-behind-lt-WIDTH c = (
   search rules,
-  read_front c.args.input.now c.copy-from-slice.new.self c.split-at.result.1.now c.from-be-bytes-coefficient.result (λ i. omega (arith, c.type-inv.input i)) (omega arith) (omega arith)
-      c.from-be-bytes-coefficient.ensures (c.copy-from-slice.ensures.after ∙ c.split-at.ensures.front) c.split-at.ensures.back,
+  read_front c.args.input.now c.copy_from_slice.new.self c.split_at.result.1.now c.from_be_bytes-coefficient.result (λ i. omega (arith, c.type_inv.input i)) (omega arith) (omega arith)
+      c.from_be_bytes-coefficient.ensures (c.copy_from_slice.ensures.after ∙ c.split_at.ensures.front) c.split_at.ensures.back,
 )
 
 pub returns-in-empty : goal.returns-in-empty

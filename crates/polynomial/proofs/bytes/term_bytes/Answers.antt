@@ -3,4 +3,4 @@ use Rattle.polynomial.proofs.Codec.{written_term}
 use Rattle.polynomial.proofs.bytes.term_bytes.Goals as goal
 
 pub returns : goal.returns
-returns c = written_term c.args.term.now c.to-be-bytes.result c.copy-from-slice.new.self (omega arith) c.to-be-bytes.ensures c.copy-from-slice.ensures.after
+returns c = written_term c.args.term.now c.to_be_bytes.result c.copy_from_slice.new.self (omega arith) c.to_be_bytes.ensures c.copy_from_slice.ensures.after

@@ -7,9 +7,9 @@ use Rattle.polynomial.proofs.bytes.write_terms.Goals as goal
 
 pub loop-i-preserved : goal.loop-i-preserved
 loop-i-preserved c =
-    let w : length c.copy-from-slice.new.self ≡ 9 = search rules in
-    write_more c.args.terms.now c.args.out.now c.loop-i.out c.loop-i.i c.copy-from-slice.new.self (term 0 []) (omega arith) (omega arith) (omega arith)
-    c.loop-i.invariant.0 c.loop-i.invariant.1 (c.copy-from-slice.ensures.after ∙ c.term_bytes.ensures) w
+    let w : length c.copy_from_slice.new.self ≡ 9 = search rules in
+    write_more c.args.terms.now c.args.out.now c.loop-i.out c.loop-i.i c.copy_from_slice.new.self (term 0 []) (omega arith) (omega arith) (omega arith)
+    c.loop-i.invariant.0 c.loop-i.invariant.1 (c.copy_from_slice.ensures.after ∙ c.term_bytes.ensures) w
 
 pub returns : goal.returns
 returns c =

@@ -6,8 +6,8 @@ use Rattle.polynomial.specs.Check.{fault, faults, outcome}
 use Rattle.polynomial.proofs.Checking.{faults_more, fault_short, fault_long, accepts}
 use Rattle.polynomial.proofs.check.check.Goals as goal
 
-pub returns-then-terms-gt-MOST-TERMS : goal.returns-then-terms-gt-MOST-TERMS
-returns-then-terms-gt-MOST-TERMS g c =
+pub returns-then-terms-gt-MOST_TERMS : goal.returns-then-terms-gt-MOST_TERMS
+returns-then-terms-gt-MOST_TERMS g c =
     let F = g.F.Field.meaning c.args.field.now in
     let O = g.O.Order.meaning c.args.order.now in
     let n = c.args.variables in
@@ -33,7 +33,7 @@ loop-i-preserved g c =
     let n = c.args.variables in
     let f = c.args.terms.now in
     let i = c.loop-i.i in
-    c.loop-i.invariant ∙ faults_more F O n c.loop-i.before f i (term 0 []) None (omega arith) c.in-default.ensures
+    c.loop-i.invariant ∙ faults_more F O n c.loop-i.before f i (term 0 []) None (omega arith) c.in_default.ensures
     ∙ ap (λ k. faults F O n (Some (get_or f i (term 0 []))) (suc k) (drop (i + 1) f)) (sym (add-one i))
 
 pub returns : goal.returns

@@ -7,8 +7,8 @@ use Rattle.reduction.proofs.merge.is_small.Goals as goal
 step : (u m : List ℕ) (i : ℕ) → i < length u → i < length m → small_product (drop i u) (drop i m) ≡ (leb (get_or u i 0 + get_or m i 0) 40 && small_product (drop (i + 1) u) (drop (i + 1) m))
 step u m i h k = ap₂ small_product (drop_more u i 0 h) (drop_more m i 0 k)
 
-pub returns-then-saturating-add-gt-LARGEST-EXPONENT : goal.returns-then-saturating-add-gt-LARGEST-EXPONENT
-returns-then-saturating-add-gt-LARGEST-EXPONENT c =
+pub returns-then-saturating_add-gt-LARGEST_EXPONENT : goal.returns-then-saturating_add-gt-LARGEST_EXPONENT
+returns-then-saturating_add-gt-LARGEST_EXPONENT c =
     let u = c.args.a.now.exponents in
     let m = c.args.b.now.exponents in
     let i = c.loop-i.i in

@@ -11,7 +11,7 @@ pub returns : goal.returns
 returns g c n v w p b i =
     let F = g.F.Field.meaning c.args.field.now in
     let O = g.O.Order.meaning c.args.order.now in
-    let tail = take_rest c.as-slice.result.now 1 ∙ ap (drop 1) c.as-slice.ensures.value in
+    let tail = take_rest c.as_slice.result.now 1 ∙ ap (drop 1) c.as_slice.ensures.value in
     let shift = c.quotient-shift.ensures in
     subst (λ (a : List ℕ). Subtracted F O n (min c.args.room 40) c.args.behind.now (scaled F c.args.term.now.coefficient a (drop 1 (terms_of c.args.row.now))) c.subtract.result (vec_items c.subtract.new.out.terms)) shift
     (subst (λ (f : Poly). Subtracted F O n (min c.args.room 40) c.args.behind.now (scaled F c.args.term.now.coefficient c.quotient-shift.result.exponents f) c.subtract.result (vec_items c.subtract.new.out.terms)) tail

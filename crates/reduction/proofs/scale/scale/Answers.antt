@@ -5,8 +5,8 @@ use Rattle.reduction.specs.Merging.{image}
 use Rattle.reduction.proofs.Multiples.{fits_yes, fits_no, images, one_more}
 use Rattle.reduction.proofs.scale.scale.Goals as goal
 
-pub returns-then-terms-gt-MOST-TERMS : goal.returns-then-terms-gt-MOST-TERMS
-returns-then-terms-gt-MOST-TERMS g c = record { all = refl; value = λ n o p. inl (omega arith) }
+pub returns-then-terms-gt-MOST_TERMS : goal.returns-then-terms-gt-MOST_TERMS
+returns-then-terms-gt-MOST_TERMS g c = record { all = refl; value = λ n o p. inl (omega arith) }
 
 pub returns-then-not-fits : goal.returns-then-not-fits
 returns-then-not-fits g c = record { all = refl; value = λ n o p. inr (fits_no (g.F.Field.meaning c.args.field.now) c.args.coefficient c.args.shift.now.exponents c.args.terms.now (sym c.if-not-fits.ensures)) }

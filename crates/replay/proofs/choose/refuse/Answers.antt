@@ -3,4 +3,4 @@ use Rattle.replay.proofs.Openings.{denied}
 use Rattle.replay.proofs.choose.refuse.Goals as goal
 
 pub returns : goal.returns
-returns c = made_then c.write-making.result c.write-making.ensures (λ _ t. denied t)
+returns c = made_then c.write_making.result c.write_making.ensures (λ _ t. denied t)

@@ -4,7 +4,7 @@ use Rattle.replay.proofs.play.do_steps.Goals as goal
 
 pub returns : goal.returns
 returns g c = record {
-  kept = c.repeat-step-steps.ensures.kept;
-  stays = c.repeat-step-steps.ensures.stays;
-  acts = made_then c.write-steps.result c.write-steps.ensures (λ _ t h w. acts_steps c.from-be-bytes.ensures t (c.repeat-step-steps.ensures.steps w));
+  kept = c.repeat_step-steps.ensures.kept;
+  stays = c.repeat_step-steps.ensures.stays;
+  acts = made_then c.write_steps.result c.write_steps.ensures (λ _ t h w. acts_steps c.from_be_bytes.ensures t (c.repeat_step-steps.ensures.steps w));
 }

@@ -10,9 +10,9 @@ use Rattle.replay.specs.Replay.{most_input}
 use Rattle.replay.proofs.Openings.{whole, of_cut}
 use Rattle.replay.proofs.transcript.transcript.Goals as goal
 
-pub returns-in-err-write : goal.returns-in-err-write
-returns-in-err-write c = record {
-  transcript = made_then c.from-residual.result (not_made_at_all c.from-residual.result c.from-residual.ensures.0) (λ _ b. absurd b);
+pub returns-in_err-write : goal.returns-in_err-write
+returns-in_err-write c = record {
+  transcript = made_then c.from_residual.result (not_made_at_all c.from_residual.result c.from_residual.ensures.0) (λ _ b. absurd b);
   one = λ bs text other p q. transcript_one p q;
   complete = complete;
   verdict = verdict;
@@ -23,7 +23,7 @@ returns-in-err-write c = record {
 
 pub returns : goal.returns
 returns c = record {
-  transcript = whole (take most_input c.args.input.now) c.new-out.ensures.items (of_cut c.cut.ensures c.in-ok-write.ensures);
+  transcript = whole (take most_input c.args.input.now) c.new-out.ensures.items (of_cut c.cut.ensures c.in_ok-write.ensures);
   one = λ bs text other p q. transcript_one p q;
   complete = complete;
   verdict = verdict;

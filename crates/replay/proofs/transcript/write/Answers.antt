@@ -8,13 +8,13 @@ pub returns-in-Sheet : goal.returns-in-Sheet
 returns-in-Sheet c = made_then c.make.result c.make.ensures (λ _ a. begun c.args.input.now c.in-Some.is c.in-Ok.ensures c.in-Sheet.is a)
 
 pub returns-in-Unknown : goal.returns-in-Unknown
-returns-in-Unknown c = made_then c.write-refused.result c.write-refused.ensures (λ _ t. record { text = _; bytes = t; is_so = faulty (read_unknown c.args.input.now c.in-Unknown.is c.in-Err.ensures) })
+returns-in-Unknown c = made_then c.write_refused.result c.write_refused.ensures (λ _ t. record { text = _; bytes = t; is_so = faulty (read_unknown c.args.input.now c.in-Unknown.is c.in-Err.ensures) })
 
 pub returns-in-Short : goal.returns-in-Short
-returns-in-Short c = made_then c.write-refused-in-Short.result c.write-refused-in-Short.ensures (λ _ t. record { text = _; bytes = t; is_so = faulty (read_short c.args.input.now c.in-Short.is c.in-Err.ensures) })
+returns-in-Short c = made_then c.write_refused-in-Short.result c.write_refused-in-Short.ensures (λ _ t. record { text = _; bytes = t; is_so = faulty (read_short c.args.input.now c.in-Short.is c.in-Err.ensures) })
 
 pub returns-in-None : goal.returns-in-None
 returns-in-None c = nothing_read c.args.input.now _ (read_none c.args.input.now c.in-None.is c.in-Ok.ensures)
 
-pub returns-in-default : goal.returns-in-default
-returns-in-default c = made_then c.write-refused-in-Some.result c.write-refused-in-Some.ensures (λ _ t. other_first c.args.input.now c.in-Some.is c.in-Ok.ensures c.in-default.not-Sheet c.byte.ensures t)
+pub returns-in_default : goal.returns-in_default
+returns-in_default c = made_then c.write_refused-in-Some.result c.write_refused-in-Some.ensures (λ _ t. other_first c.args.input.now c.in-Some.is c.in-Ok.ensures c.in_default.not-Sheet c.byte.ensures t)

@@ -21,12 +21,12 @@ returns-in-Ok g c = record {
       let h = c.args.g.now in
       let D = g.D.Division.meaning c.args.division.now in
       let old = vec_items c.args.table.now.rows in
-      let pushed = vec_items c.push-reserved-in-Ok.new.self in
+      let pushed = vec_items c.push_reserved-in-Ok.new.self in
       let new = c.refresh.new.rows in
-      let U = exponents_of c.as-slice-in-Ok.result.now in
-      let u : U ≡ map lead_of pushed = ap exponents_of c.as-slice-in-Ok.ensures.value ∙ c.list-leaders.ensures.list ∙ ap (map lead_of) c.as-slice.ensures.value in
-      let R : Refreshed D U pushed new = subst (λ (x : List Row). Refreshed D U x new) c.as-mut-slice.ensures.value c.refresh.ensures in
-      let l : length new ≡ c.push-reserved-in-Ok.new.self.len = search rules in
+      let U = exponents_of c.as_slice-in-Ok.result.now in
+      let u : U ≡ map lead_of pushed = ap exponents_of c.as_slice-in-Ok.ensures.value ∙ c.list_leaders.ensures.list ∙ ap (map lead_of) c.as_slice.ensures.value in
+      let R : Refreshed D U pushed new = subst (λ (x : List Row). Refreshed D U x new) c.as_mut_slice.ensures.value c.refresh.ensures in
+      let l : length new ≡ c.push_reserved-in-Ok.new.self.len = search rules in
       let k : vec_len c.args.table.now.rows < 32 = search rules in
-      (sym (lt-ltb (vec_len c.args.table.now.rows) 32 k), subst (λ (x : List Row). Appended D (scaled F (F.inv (leading_coefficient h)) one h) (leading h) old x) (sym (take_at new _ c.push-reserved-in-Ok.new.self.len l)) (appended old pushed new c.in-Ok.row c.push-reserved-in-Ok.ensures.items (c.in-Ok.ensures.terms n o p) c.in-Ok.ensures.lead u R));
+      (sym (lt-ltb (vec_len c.args.table.now.rows) 32 k), subst (λ (x : List Row). Appended D (scaled F (F.inv (leading_coefficient h)) one h) (leading h) old x) (sym (take_at new _ c.push_reserved-in-Ok.new.self.len l)) (appended old pushed new c.in-Ok.row c.push_reserved-in-Ok.ensures.items (c.in-Ok.ensures.terms n o p) c.in-Ok.ensures.lead u R));
 }

@@ -11,7 +11,7 @@ returns-then-not-scale g c =
     record {
       lead = tt;
       terms = λ n o p f.
-          let i = inverse_is (g.met.F.Field.laws c.args.field.now) c.args.g.now n c.unwrap-or-inverse.result c.requires.0 o p (c.unwrap-or-inverse.ensures ∙ ap (λ x. unwrap_or x 0) c.inv.ensures) in
+          let i = inverse_is (g.met.F.Field.laws c.args.field.now) c.args.g.now n c.unwrap_or-inverse.result c.requires.0 o p (c.unwrap_or-inverse.ensures ∙ ap (λ x. unwrap_or x 0) c.inv.ensures) in
           ⊎_elim (λ l. let s = c.requires.1 in omega (arith, l, s)) (λ d. d (subst (λ x. Fits (scaled F x one c.args.g.now)) (sym i.0) f)) (c.if-not-scale.ensures.value n o i.1);
     }
 
@@ -21,6 +21,6 @@ returns g c =
     record {
       lead = first_leads c.args.g.now c.requires.0;
       terms = λ n o p.
-          let i = inverse_is (g.met.F.Field.laws c.args.field.now) c.args.g.now n c.unwrap-or-inverse.result c.requires.0 o p (c.unwrap-or-inverse.ensures ∙ ap (λ x. unwrap_or x 0) c.inv.ensures) in
+          let i = inverse_is (g.met.F.Field.laws c.args.field.now) c.args.g.now n c.unwrap_or-inverse.result c.requires.0 o p (c.unwrap_or-inverse.ensures ∙ ap (λ x. unwrap_or x 0) c.inv.ensures) in
           (c.if-not-scale.ensures.value n o i.1).1 ∙ ap (λ x. scaled F x one c.args.g.now) i.0;
     }

@@ -3,7 +3,7 @@ use Rattle.sheet.specs.Marks.{rows_of}
 use Rattle.sheet.specs.Choosing.{scanned, consider, raised}
 use Rattle.sheet.proofs.Searching.{scan_step, scan_end, taken, passed}
 use Rattle.sheet.proofs.choose.scan.Goals as goal
-use Rattle.sheet.proofs.choose.scan.Goals.{then-is-open, else-is-open}
+use Rattle.sheet.proofs.choose.scan.Goals.{then-is_open, else-is_open}
 
 pub loop-i-preserved : goal.loop-i-preserved
 loop-i-preserved g c =
@@ -14,9 +14,9 @@ loop-i-preserved g c =
     let n = c.args.variables in
     let i = c.loop-i.i in
     let best = c.loop-i.best in
-    let e : c.if-is-open.best ≡ consider O l xs k (i + 1) best = elim c.if-is-open.branch [
-      | then-is-open w ↦ w.best-is ∙ w.keep-better.ensures ∙ taken O l xs k (i + 1) best w.raise.result.exponents w.if-is-open.ensures w.raise.ensures
-      | else-is-open w ↦ w.best-is ∙ passed O l xs k (i + 1) best w.if-is-open.ensures
+    let e : c.if-is_open.best ≡ consider O l xs k (i + 1) best = elim c.if-is_open.branch [
+      | then-is_open w ↦ w.best-is ∙ w.keep_better.ensures ∙ taken O l xs k (i + 1) best w.raise.result.exponents w.if-is_open.ensures w.raise.ensures
+      | else-is_open w ↦ w.best-is ∙ passed O l xs k (i + 1) best w.if-is_open.ensures
     ] in
     ap (scanned O l xs k (suc (i + 1)) (n - (i + 1))) e ∙ sym (scan_step O l xs k n i best c.loop-i-test.true) ∙ c.loop-i.invariant
 

@@ -8,11 +8,11 @@ use Rattle.sheet.proofs.Mapping.{map_at}
 use Rattle.sheet.proofs.FairCopying.{progress_more, progress_denied, progress_all}
 use Rattle.sheet.proofs.copy.copy_rows.Goals as goal
 
-pub overflow-sub-row : goal.overflow-sub-row
-overflow-sub-row g c = let w : Within (get_or c.args.list.now c.loop-i.i 0) (length c.args.rows.now) = c.requires.1 _ (entry_member 0 c.args.list.now c.loop-i.i c.loop-i-test.true) in omega arith
+pub overflow_sub-row : goal.overflow_sub-row
+overflow_sub-row g c = let w : Within (get_or c.args.list.now c.loop-i.i 0) (length c.args.rows.now) = c.requires.1 _ (entry_member 0 c.args.list.now c.loop-i.i c.loop-i-test.true) in omega arith
 
-pub offset-bounds-rows-list : goal.offset-bounds-rows-list
-offset-bounds-rows-list g c = let w : Within (get_or c.args.list.now c.loop-i.i 0) (length c.args.rows.now) = c.requires.1 _ (entry_member 0 c.args.list.now c.loop-i.i c.loop-i-test.true) in search rules
+pub offset_bounds-rows-list : goal.offset_bounds-rows-list
+offset_bounds-rows-list g c = let w : Within (get_or c.args.list.now c.loop-i.i 0) (length c.args.rows.now) = c.requires.1 _ (entry_member 0 c.args.list.now c.loop-i.i c.loop-i-test.true) in search rules
 
 pub bounds-rows-list : goal.bounds-rows-list
 bounds-rows-list g c = let w : Within (get_or c.args.list.now c.loop-i.i 0) (length c.args.rows.now) = c.requires.1 _ (entry_member 0 c.args.list.now c.loop-i.i c.loop-i-test.true) in omega arith

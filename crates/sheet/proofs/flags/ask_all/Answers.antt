@@ -16,7 +16,7 @@ loop-i-preserved g c =
     let D = g.D.Division.meaning c.args.division.now in
     let U = exponents_of c.args.list.now in
     let i = c.loop-i.i in
-    let e : c.unwrap-or.result ≡ unwrap_or (D U c.args.member (suc i)) false = c.unwrap-or.ensures ∙ ap (λ x. unwrap_or x false) (c.multiplicative.ensures ∙ ap (D U c.args.member) (add-one i)) in (
-      length-set c.loop-i.set i c.unwrap-or.result ∙ c.loop-i.invariant.0,
-      written (λ h. unwrap_or (D U c.args.member (suc h)) false) c.loop-i.set i c.unwrap-or.result (omega (arith, c.loop-i.invariant.0)) c.loop-i.invariant.1 e,
+    let e : c.unwrap_or.result ≡ unwrap_or (D U c.args.member (suc i)) false = c.unwrap_or.ensures ∙ ap (λ x. unwrap_or x false) (c.multiplicative.ensures ∙ ap (D U c.args.member) (add-one i)) in (
+      length-set c.loop-i.set i c.unwrap_or.result ∙ c.loop-i.invariant.0,
+      written (λ h. unwrap_or (D U c.args.member (suc h)) false) c.loop-i.set i c.unwrap_or.result (omega (arith, c.loop-i.invariant.0)) c.loop-i.invariant.1 e,
     )

@@ -6,7 +6,7 @@ use Rattle.sheet.proofs.Mapping.{map_more}
 use Rattle.sheet.proofs.flags.list_leaders.Goals as goal
 
 pub loop-row-preserved : goal.loop-row-preserved
-loop-row-preserved c = (search rules, search rules, ap exponents_of c.push-reserved.ensures.items ∙ map-append _ (vec_items c.loop-row.leaders) _ ∙ map_more lead_of c.args.rows.now c.loop-row.row-index c.row-item.result (omega arith) c.row-item.is (exponents_of (vec_items c.loop-row.leaders)) c.loop-row.invariant.2)
+loop-row-preserved c = (search rules, search rules, ap exponents_of c.push_reserved.ensures.items ∙ map-append _ (vec_items c.loop-row.leaders) _ ∙ map_more lead_of c.args.rows.now c.loop-row.row-index c.row-item.result (omega arith) c.row-item.is (exponents_of (vec_items c.loop-row.leaders)) c.loop-row.invariant.2)
 
 pub returns : goal.returns
 returns c = record { list = c.loop-row.invariant.2 ∙ ap (map lead_of) (take_all _ c.args.rows.now c.loop-row-test.false); room = search rules }

@@ -12,4 +12,4 @@ returns g c O D n I =
     let out = vec_items c.scale.new.out.terms in
     let x = c.variable-x.result.exponents in
     prolonged_row F O D n c.args.rows.now I c.args.k c.args.v c.requires.0 c.index-rows-k.result c.index-rows-k.is r out x c.variable-x.ensures (g.met.F.Field.laws c.args.field.now).differ
-    (subst (λ t. Over F n t → 1 < F.q → MatchBool r (Fits (scaled F 1 x t) × (out ≡ scaled F 1 x t)) ((most_terms < length t) ⊎ (Fits (scaled F 1 x t) → ⊥))) c.as-slice.ensures.value (c.scale.ensures.value n))
+    (subst (λ t. Over F n t → 1 < F.q → MatchBool r (Fits (scaled F 1 x t) × (out ≡ scaled F 1 x t)) ((most_terms < length t) ⊎ (Fits (scaled F 1 x t) → ⊥))) c.as_slice.ensures.value (c.scale.ensures.value n))

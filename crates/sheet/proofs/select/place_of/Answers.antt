@@ -6,8 +6,8 @@ use Rattle.sheet.specs.Rows.{lead_of}
 use Rattle.sheet.proofs.Selections.{place_step, place_stop, place_end}
 use Rattle.sheet.proofs.select.place_of.Goals as goal
 
-pub compare-leads-requires : goal.compare-leads-requires
-compare-leads-requires g c = (c.requires.0 _ (entry_member 0 c.args.list.now c.loop-i.i c.loop-i-test.true), c.requires.1)
+pub compare_leads-requires : goal.compare_leads-requires
+compare_leads-requires g c = (c.requires.0 _ (entry_member 0 c.args.list.now c.loop-i.i c.loop-i-test.true), c.requires.1)
 
 pub returns-in-Equal : goal.returns-in-Equal
 returns-in-Equal g c = record {

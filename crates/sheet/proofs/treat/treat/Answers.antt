@@ -16,7 +16,7 @@ returns-then-not-prolong g c = record {
       let k = c.args.pick.row in
       let v = c.args.pick.variable in
       let p = vec_items c.prolong.new.out.terms in
-      let f = at_rows S W rows xs I k v C false p c.as-slice.ensures.value (c.if-not-prolong.ensures S.order S.division n) in
+      let f = at_rows S W rows xs I k v C false p c.as_slice.ensures.value (c.if-not-prolong.ensures S.order S.division n) in
       treat_wide S W rows xs I k v C f;
 }
 
@@ -31,7 +31,7 @@ returns-in-Err g c = record {
       let k = c.args.pick.row in
       let v = c.args.pick.variable in
       let p = vec_items c.prolong.new.out.terms in
-      let f = at_rows S W rows xs I k v C true p c.as-slice.ensures.value (c.if-not-prolong.ensures S.order S.division n) in
+      let f = at_rows S W rows xs I k v C true p c.as_slice.ensures.value (c.if-not-prolong.ensures S.order S.division n) in
       treat_denied S W rows xs I k v C p c.in-Err.refusal (vec_items c.settle.new.table.rows) (rows_of c.settle.new.marks) f (c.in-Err.ensures.settles n w);
 }
 
@@ -46,7 +46,7 @@ returns-in-Nothing g c = record {
       let k = c.args.pick.row in
       let v = c.args.pick.variable in
       let p = vec_items c.prolong.new.out.terms in
-      let f = at_rows S W rows xs I k v C true p c.as-slice.ensures.value (c.if-not-prolong.ensures S.order S.division n) in
+      let f = at_rows S W rows xs I k v C true p c.as_slice.ensures.value (c.if-not-prolong.ensures S.order S.division n) in
       treat_marked S W rows xs I k v C p c.in-Ok.settled (vec_items c.settle.new.table.rows) (rows_of c.settle.new.marks) (rows_of c.mark.new.self) c.in-Nothing.is f (c.in-Ok.ensures.settles n w) c.mark.ensures;
 }
 
@@ -61,6 +61,6 @@ returns-in-Appended g c = record {
       let k = c.args.pick.row in
       let v = c.args.pick.variable in
       let p = vec_items c.prolong.new.out.terms in
-      let f = at_rows S W rows xs I k v C true p c.as-slice.ensures.value (c.if-not-prolong.ensures S.order S.division n) in
+      let f = at_rows S W rows xs I k v C true p c.as_slice.ensures.value (c.if-not-prolong.ensures S.order S.division n) in
       treat_appended S W rows xs I k v C p c.in-Ok.settled (vec_items c.settle.new.table.rows) (rows_of c.settle.new.marks) c.in-Appended.is f (c.in-Ok.ensures.settles n w);
 }

@@ -3,11 +3,11 @@ use Rattle.stored.specs.Record.{ReadsRecord}
 use Rattle.stored.proofs.Records.{rest_within, within_file, no_run, closed_run, open_run, other_run}
 use Rattle.stored.proofs.record.read_record.Goals as goal
 
-pub overflow-sub-result : goal.overflow-sub-result
-overflow-sub-result c = rest_within c.args.input.now c.in-Ok.field-0.rest.now (vec_items c.in-Ok.field-0.terms) c.in-Ok.ensures.run
+pub overflow_sub-result : goal.overflow_sub-result
+overflow_sub-result c = rest_within c.args.input.now c.in-Ok.field-0.rest.now (vec_items c.in-Ok.field-0.terms) c.in-Ok.ensures.run
 
-pub run-fault-requires : goal.run-fault-requires
-run-fault-requires c = within_file c.args.input.now c.args.offset c.in-Err.why c.requires c.in-Err.ensures.run
+pub run_fault-requires : goal.run_fault-requires
+run_fault-requires c = within_file c.args.input.now c.args.offset c.in-Err.why c.requires c.in-Err.ensures.run
 
 pub returns-in-empty : goal.returns-in-empty
 returns-in-empty c =
@@ -26,4 +26,4 @@ returns-in-len1-up c = (
 
 pub returns-in-Err : goal.returns-in-Err
 returns-in-Err c =
-    subst (λ f. ReadsRecord c.args.input.now c.args.offset (Err f)) (sym c.run-fault.ensures) (no_run c.args.input.now c.args.offset c.in-Err.why c.in-Err.ensures.run)
+    subst (λ f. ReadsRecord c.args.input.now c.args.offset (Err f)) (sym c.run_fault.ensures) (no_run c.args.input.now c.args.offset c.in-Err.why c.in-Err.ensures.run)

@@ -7,19 +7,19 @@ pub returns-in-len6-up : goal.returns-in-len6-up
 returns-in-len6-up c =
     let bytes = c.args.input.now in
     let operands = take (length bytes - 1) (drop 1 bytes) in
-    let modulus = c.from-be-bytes.result in
+    let modulus = c.from_be_bytes.result in
     let rest = take (length operands - 6) (drop 6 operands) in
     let some : 1 ≤ length bytes = omega (arith, ltb-false) in
     let six : 6 ≤ length operands = omega (arith, ltb-false) in
     let zero : get_or bytes 0 0 ≡ 0 = omega arith in
-    let e = whole bytes operands modulus refl (λ i. omega (arith, c.type-inv.input i)) zero some in
+    let e = whole bytes operands modulus refl (λ i. omega (arith, c.type_inv.input i)) zero some in
     file_told bytes rest (record { kind = get_or operands 0 0; modulus = modulus; variables = get_or operands 3 0; order = get_or operands 4 0; division = get_or operands 5 0 }) (7 + length rest)
     (omega (arith, ap length (take_rest operands 6), length-drop 6 operands, ap length e))
-    (opens_here bytes operands modulus refl (λ i. omega (arith, c.type-inv.input i)) zero some six c.from-be-bytes.ensures)
-    c.show-by-field.result c.show-by-field.ensures
+    (opens_here bytes operands modulus refl (λ i. omega (arith, c.type_inv.input i)) zero some six c.from_be_bytes.ensures)
+    c.show_by_field.result c.show_by_field.ensures
 
-pub returns-in-default : goal.returns-in-default
-returns-in-default c =
+pub returns-in_default : goal.returns-in_default
+returns-in_default c =
     let bytes = c.args.input.now in
     let operands = take (length bytes - 1) (drop 1 bytes) in
     let few : length operands < 6 = omega (arith, ltb-true) in

@@ -15,12 +15,12 @@ returns g c =
     let fs = polys (vec_items rows.terms) in
     let U = exponents_of (vec_items rows.leaders) in
     let start = string_bytes c.new-out.result in
-    let middle = string_bytes c.write-setting.new.out in
-    let end = string_bytes c.write-rows.new.out in (
+    let middle = string_bytes c.write_setting.new.out in
+    let end = string_bytes c.write_rows.new.out in (
       fs,
       h.0,
       table_told D s.modulus s.variables s.order s.division c.len.result fs U start middle end c.new-out.ensures.bytes
-          (made_ok (middle ≡ start ++ setting_text s.modulus s.variables s.order s.division c.len.result) c.write-setting.result c.if-is-err.ensures.negation c.write-setting.ensures)
-          (made_ok (end ≡ middle ++ rows_text D U s.variables 1 fs) c.write-rows.result c.if-is-err-2.ensures.negation c.write-rows.ensures)
+          (made_ok (middle ≡ start ++ setting_text s.modulus s.variables s.order s.division c.len.result) c.write_setting.result c.if-is_err.ensures.negation c.write_setting.ensures)
+          (made_ok (end ≡ middle ++ rows_text D U s.variables 1 fs) c.write_rows.result c.if-is_err-2.ensures.negation c.write_rows.ensures)
           (omega (arith, c.len.ensures, rows.terms.ok.0, length-map (vec_items rows.terms) vec_items)) h.1,
     )

@@ -16,8 +16,8 @@ loop-i-preserved g c =
     let v = c.index.result.now in
     let h : i < length vs = omega (arith, c.args.rows.now.terms.ok.0, c.len-i-end.ensures) in
     let e = rows_from D U n vs i v h c.index.ensures in
-    piece_more (string_bytes c.loop-i.out) (string_bytes c.write-row.new.out) (string_bytes c.args.out.now) (row_text D U n (i + 1) (vec_items v)) (rows_text D U n (suc (i + 1)) (polys (drop (i + 1) vs))) (rows_text D U n 1 (polys vs))
-    (c.in-ok-write-row.ensures ∙ ap₂ (λ x y. string_bytes c.loop-i.out ++ row_text D (exponents_of x) n (i + 1) y) c.as-slice-leaders.ensures.value c.as-slice-terms.ensures.value)
+    piece_more (string_bytes c.loop-i.out) (string_bytes c.write_row.new.out) (string_bytes c.args.out.now) (row_text D U n (i + 1) (vec_items v)) (rows_text D U n (suc (i + 1)) (polys (drop (i + 1) vs))) (rows_text D U n 1 (polys vs))
+    (c.in_ok-write_row.ensures ∙ ap₂ (λ x y. string_bytes c.loop-i.out ++ row_text D (exponents_of x) n (i + 1) y) c.as_slice-leaders.ensures.value c.as_slice-terms.ensures.value)
     (ap (λ x. string_bytes c.loop-i.out ++ x) (sym e) ∙ c.loop-i.invariant)
 
 pub returns : goal.returns

@@ -10,6 +10,6 @@ returns c =
     (codes "GF(" ++ (decimal s.modulus ++ (codes "), variables " ++ (decimal s.variables ++ codes ", "))))
     (order_text s.order ++ (codes ", " ++ (division_text s.division ++ codes ", ")))
     (codes "rows " ++ (decimal c.args.rows ++ codes "\n"))
-    c.in-ok-write.ensures.bytes
-    (c.in-ok-write-2.ensures.bytes ∙ ap₂ (λ x y. string_bytes c.write.new.self ++ (x ++ (codes ", " ++ (y ++ codes ", ")))) c.order-name-order.ensures c.division-name-division.ensures)
-    c.in-ok-write-3.ensures.bytes
+    c.in_ok-write.ensures.bytes
+    (c.in_ok-write-2.ensures.bytes ∙ ap₂ (λ x y. string_bytes c.write.new.self ++ (x ++ (codes ", " ++ (y ++ codes ", ")))) c.order_name-order.ensures c.division_name-division.ensures)
+    c.in_ok-write-3.ensures.bytes

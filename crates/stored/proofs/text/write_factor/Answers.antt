@@ -8,5 +8,5 @@ returns-then-started c =
     let v = c.args.variable in
     let e = c.args.exponent in
     let start = string_bytes c.args.out.now in
-    two_pieces start (string_bytes c.write.new.self) (string_bytes c.write-power.new.out) (codes "*") (power_text v e) c.in-ok-write.ensures.bytes c.in-ok-write-power.ensures
+    two_pieces start (string_bytes c.write.new.self) (string_bytes c.write_power.new.out) (codes "*") (power_text v e) c.in_ok-write.ensures.bytes c.in_ok-write_power.ensures
     ∙ ap (λ x. start ++ x) (factor_started v e c.args.started c.if-started.true c.if-exponent-eq0.false)

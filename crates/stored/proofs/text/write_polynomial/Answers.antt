@@ -11,8 +11,8 @@ loop-term-preserved c =
     let i = c.loop-term.term-index in
     let t = get_or f i (term 0 []) in
     let e = behind_from f i (term 0 []) c.loop-term-test.true in
-    piece_more (string_bytes c.loop-term.out) (string_bytes c.write-term-in-loop-term.new.out) (string_bytes c.write-term.new.out) (codes " + " ++ term_text t) (behind_text (drop (i + 1) f)) (behind_text f)
-    (two_pieces (string_bytes c.loop-term.out) (string_bytes c.write-in-loop-term.new.self) (string_bytes c.write-term-in-loop-term.new.out) (codes " + ") (term_text t) c.in-ok-write-2.ensures.bytes c.in-ok-write-term-2.ensures)
+    piece_more (string_bytes c.loop-term.out) (string_bytes c.write_term-in-loop-term.new.out) (string_bytes c.write_term.new.out) (codes " + " ++ term_text t) (behind_text (drop (i + 1) f)) (behind_text f)
+    (two_pieces (string_bytes c.loop-term.out) (string_bytes c.write-in-loop-term.new.self) (string_bytes c.write_term-in-loop-term.new.out) (codes " + ") (term_text t) c.in_ok-write-2.ensures.bytes c.in_ok-write_term-2.ensures)
     (ap (λ x. string_bytes c.loop-term.out ++ x) (sym e) ∙ c.loop-term.invariant)
 
 pub returns : goal.returns
@@ -22,8 +22,8 @@ returns c =
     let i = c.loop-term.term-index in
     let some : 0 < length all = omega (arith, ltb-false) in
     let start = string_bytes c.args.out.now in
-    all_pieces (string_bytes c.loop-term.out) (string_bytes c.write-term.new.out) (behind_text (drop i f)) (behind_text f) c.loop-term.invariant (at_drop_all behind_text f i c.loop-term-test.false)
-    ∙ ap (λ x. string_bytes c.write-term.new.out ++ behind_text x) (take_rest all 1)
-    ∙ ap (λ x. x ++ behind_text (drop 1 all)) c.in-ok-write-term.ensures
+    all_pieces (string_bytes c.loop-term.out) (string_bytes c.write_term.new.out) (behind_text (drop i f)) (behind_text f) c.loop-term.invariant (at_drop_all behind_text f i c.loop-term-test.false)
+    ∙ ap (λ x. string_bytes c.write_term.new.out ++ behind_text x) (take_rest all 1)
+    ∙ ap (λ x. x ++ behind_text (drop 1 all)) c.in_ok-write_term.ensures
     ∙ append_assoc start (term_text (get_or all 0 (term 0 []))) (behind_text (drop 1 all))
     ∙ ap (λ x. start ++ x) (sym (poly_pieces all (term 0 []) some))

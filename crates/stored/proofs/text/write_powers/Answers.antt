@@ -11,8 +11,8 @@ loop-i-preserved c =
     let s = c.loop-i.started in
     let h : i < length m = search rules in
     let e = powers_from m i s c.either-started.result h c.either-started.ensures in
-    piece_more (string_bytes c.loop-i.out) (string_bytes c.write-factor.new.out) (string_bytes c.args.out.now) (factor_text (i + 1) s (get_or m i 0)) (powers_text (suc (i + 1)) c.either-started.result (drop (i + 1) m)) (powers_text 1 c.args.started m)
-    c.in-ok-write-factor.ensures (ap (λ x. string_bytes c.loop-i.out ++ x) (sym e) ∙ c.loop-i.invariant)
+    piece_more (string_bytes c.loop-i.out) (string_bytes c.write_factor.new.out) (string_bytes c.args.out.now) (factor_text (i + 1) s (get_or m i 0)) (powers_text (suc (i + 1)) c.either-started.result (drop (i + 1) m)) (powers_text 1 c.args.started m)
+    c.in_ok-write_factor.ensures (ap (λ x. string_bytes c.loop-i.out ++ x) (sym e) ∙ c.loop-i.invariant)
 
 pub returns : goal.returns
 returns c =

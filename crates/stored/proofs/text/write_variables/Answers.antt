@@ -10,7 +10,7 @@ loop-i-preserved g c =
     let n = c.args.variables in
     let i = c.loop-i.i in
     let s = c.loop-i.started in
-    let told = c.unwrap-or-told.result in
-    let e = variables_from test n i s told c.either-started.result c.loop-i-test.true (c.unwrap-or-told.ensures ∙ says c.multiplicative.result ∙ ap says_yes c.multiplicative.ensures) c.either-started.ensures in
-    piece_more (string_bytes c.loop-i.out) (string_bytes c.write-variable.new.out) (string_bytes c.args.out.now) (variable_text told s (i + 1)) (variables_text test (suc (i + 1)) c.either-started.result (n - (i + 1))) (variables_text test 1 false n)
-    c.in-ok-write-variable.ensures (ap (λ x. string_bytes c.loop-i.out ++ x) (sym e) ∙ c.loop-i.invariant)
+    let told = c.unwrap_or-told.result in
+    let e = variables_from test n i s told c.either-started.result c.loop-i-test.true (c.unwrap_or-told.ensures ∙ says c.multiplicative.result ∙ ap says_yes c.multiplicative.ensures) c.either-started.ensures in
+    piece_more (string_bytes c.loop-i.out) (string_bytes c.write_variable.new.out) (string_bytes c.args.out.now) (variable_text told s (i + 1)) (variables_text test (suc (i + 1)) c.either-started.result (n - (i + 1))) (variables_text test 1 false n)
+    c.in_ok-write_variable.ensures (ap (λ x. string_bytes c.loop-i.out ++ x) (sym e) ∙ c.loop-i.invariant)

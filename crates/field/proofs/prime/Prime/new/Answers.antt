@@ -3,12 +3,12 @@ use Rattle.field.specs.Primes.{listed, primes}
 use Rattle.field.specs.PrimeList.{listed_are_the_primes, listed_bounds, found_stands, passed_over}
 use Rattle.field.proofs.prime.Prime.new.Goals as goal
 
-pub invariant-of-result : goal.invariant-of-result
+pub invariant_of-result : goal.invariant_of-result
 unfolding listed
-invariant-of-result c =
+invariant_of-result c =
     let here : get_or primes c.loop-prime.prime-index 0 ≡ c.args.p = omega (arith, c.if-prime-p.true) in
     let t : listed c.args.p ≡ true = found_stands c.args.p primes c.loop-prime.prime-index (omega arith) here in
-    (t, (listed_bounds c.args.p t, tt))
+    record { prime = t; small = listed_bounds c.args.p t }
 
 pub returns-then-prime-p : goal.returns-then-prime-p
 unfolding listed

@@ -32,5 +32,5 @@ returns g c =
     let n = c.args.number in
     let z : vec_len x.table.rows ≡ length rows = search rules in
     let w : Within n (length rows) = (omega arith, omega arith) in
-    let k = shows_put S (state_of rows xs) n c.as-slice.result.now c.args.out.now c.put.result c.put.new.out (has_row rows n w) (c.as-slice.ensures.value ∙ row_is rows n c.index.result.now w c.index.ensures) c.put.ensures in
-    record { within = put_within c.as-slice.result.now c.args.out.now c.put.result c.put.new.out c.put.ensures; answer = λ I. k; logged = λ I calls gs a. After.shown a k }
+    let k = shows_put S (state_of rows xs) n c.as_slice.result.now c.args.out.now c.put.result c.put.new.out (has_row rows n w) (c.as_slice.ensures.value ∙ row_is rows n c.index.result.now w c.index.ensures) c.put.ensures in
+    record { within = put_within c.as_slice.result.now c.args.out.now c.put.result c.put.new.out c.put.ensures; answer = λ I. k; logged = λ I calls gs a. After.shown a k }

@@ -16,7 +16,7 @@ returns-in-None g c =
     let W : Lawful S = record { field = g.met.F.Field.laws x.field; order = g.met.O.Order.laws x.order; division = g.met.D.Division.laws x.division; variables = (x.some, x.few) } in
     let rows = vec_items x.table.rows in
     let xs = rows_of x.marks in
-    let k = λ (I : Whole S rows xs). step_closed (closed_none S W rows xs I c.as-slice.ensures.value c.in-None.ensures.smallest) in
+    let k = λ (I : Whole S rows xs). step_closed (closed_none S W rows xs I c.as_slice.ensures.value c.in-None.ensures.smallest) in
     record { kept = refl; refused = tt; stays = λ I. I; answer = k; logged = λ I calls gs a. After.stepped a (k I) }
 
 pub returns-in-Some : goal.returns-in-Some
@@ -26,5 +26,5 @@ returns-in-Some g c =
     let W : Lawful S = record { field = g.met.F.Field.laws x.field; order = g.met.O.Order.laws x.order; division = g.met.D.Division.laws x.division; variables = (x.some, x.few) } in
     let rows = vec_items x.table.rows in
     let xs = rows_of x.marks in
-    let q = λ (I : Whole S rows xs). c.treat.ensures.treats x.variables (x.some, x.few) I (chosen_some S W rows xs I c.in-Some.pick c.as-slice.ensures.value c.in-Some.ensures.smallest) in
+    let q = λ (I : Whole S rows xs). c.treat.ensures.treats x.variables (x.some, x.few) I (chosen_some S W rows xs I c.in-Some.pick c.as_slice.ensures.value c.in-Some.ensures.smallest) in
     record { kept = refl; refused = kept_when_refused c.treat.result rows (vec_items c.treat.new.table.rows) x.marks c.treat.new.marks c.treat.ensures.refused; stays = λ I. (q I).1; answer = λ I. (q I).0; logged = λ I calls gs a. After.stepped a (q I).0 }

@@ -8,32 +8,32 @@ use Rattle.sheet.specs.Whole.{Whole}
 use Rattle.sheet.proofs.Closing.{is_closed, is_open, verdict_one, verdict_zero}
 use Rattle.sheet.proofs.six.SheetCalls.verdict.Goals as goal
 
-pub returns-then-not-is-closed : goal.returns-then-not-is-closed
-returns-then-not-is-closed g c =
+pub returns-then-not-is_closed : goal.returns-then-not-is_closed
+returns-then-not-is_closed g c =
     let x = c.args.self.now in
     let S = setting (g.F.Field.meaning x.field) (g.O.Order.meaning x.order) (g.D.Division.meaning x.division) x.variables in
     let W : Lawful S = record { field = g.met.F.Field.laws x.field; order = g.met.O.Order.laws x.order; division = g.met.D.Division.laws x.division; variables = (x.some, x.few) } in
     let rows = vec_items x.table.rows in
     let xs = rows_of x.marks in
-    let k = λ (I : Whole S rows xs). verdict_open (is_open S W rows xs I c.as-slice.ensures.value c.if-not-is-closed.ensures) in
+    let k = λ (I : Whole S rows xs). verdict_open (is_open S W rows xs I c.as_slice.ensures.value c.if-not-is_closed.ensures) in
     record { answer = k; logged = λ I calls gs a. After.judged a (k I) }
 
-pub returns-then-leads-with-one : goal.returns-then-leads-with-one
-returns-then-leads-with-one g c =
+pub returns-then-leads_with_one : goal.returns-then-leads_with_one
+returns-then-leads_with_one g c =
     let x = c.args.self.now in
     let S = setting (g.F.Field.meaning x.field) (g.O.Order.meaning x.order) (g.D.Division.meaning x.division) x.variables in
     let W : Lawful S = record { field = g.met.F.Field.laws x.field; order = g.met.O.Order.laws x.order; division = g.met.D.Division.laws x.division; variables = (x.some, x.few) } in
     let rows = vec_items x.table.rows in
     let xs = rows_of x.marks in
-    let k = λ (I : Whole S rows xs). verdict_one S W rows xs I c.as-slice-2.ensures.value (is_closed S W rows xs I c.as-slice.ensures.value c.if-not-is-closed.ensures) c.if-leads-with-one.ensures in
+    let k = λ (I : Whole S rows xs). verdict_one S W rows xs I c.as_slice-2.ensures.value (is_closed S W rows xs I c.as_slice.ensures.value c.if-not-is_closed.ensures) c.if-leads_with_one.ensures in
     record { answer = k; logged = λ I calls gs a. After.judged a (k I) }
 
-pub returns-else-leads-with-one : goal.returns-else-leads-with-one
-returns-else-leads-with-one g c =
+pub returns-else-leads_with_one : goal.returns-else-leads_with_one
+returns-else-leads_with_one g c =
     let x = c.args.self.now in
     let S = setting (g.F.Field.meaning x.field) (g.O.Order.meaning x.order) (g.D.Division.meaning x.division) x.variables in
     let W : Lawful S = record { field = g.met.F.Field.laws x.field; order = g.met.O.Order.laws x.order; division = g.met.D.Division.laws x.division; variables = (x.some, x.few) } in
     let rows = vec_items x.table.rows in
     let xs = rows_of x.marks in
-    let k = λ (I : Whole S rows xs). verdict_zero S W rows xs I c.as-slice-2.ensures.value (is_closed S W rows xs I c.as-slice.ensures.value c.if-not-is-closed.ensures) c.if-leads-with-one.ensures in
+    let k = λ (I : Whole S rows xs). verdict_zero S W rows xs I c.as_slice-2.ensures.value (is_closed S W rows xs I c.as_slice.ensures.value c.if-not-is_closed.ensures) c.if-leads_with_one.ensures in
     record { answer = k; logged = λ I calls gs a. After.judged a (k I) }
