@@ -68,5 +68,5 @@ loop-turn-preserved g c =
           subst (λ (x : Poly). Stands (G n) D (table_of rows) c.args.room h fine x c.loop-turn.turn) (sym c.as_slice-terms.ensures.value) (c.loop-turn.invariant.1 D n s a b l) in
           act (G n) D rows s c.args.room h fine xs c.loop-turn.turn st c.in-Some.i c.in-Some.k c.in-Some.ensures c.index-table-k.result c.index-table-k.is
           c.cap-most.result (omega (arith, c.cap-most.ensures)) c.extend-in-Some.result fine' c.extend-in-Some.ensures.0 c.extend-in-Some.ensures.1
-          b c.cap-most.ensures c.len.result len _ (take_rest xs (c.in-Some.i + 1)) _ _ (vec_items c.swap.new.x.terms) (ap (λ y. vec_items y.terms) c.swap.ensures.x-after) c.in-Ok.ensures,
+          b c.cap-most.ensures c.len.result len _ (take_rest xs (c.in-Some.i + 1)) _ _ (vec_items c.swap.new.x.terms) (ap (λ y. vec_items y.terms) c.swap.ensures.x_after) c.in-Ok.ensures,
     )
