@@ -29,4 +29,4 @@ loop-fault-preserved g c =
     let l = long k in
     let p = not_sheet c.in-Some.command c.in_default.not-Sheet in
     let i = c.loop-fault.invariant in
-    (c.act.ensures.kept ∙ i.0, omega (arith, l, i.1), λ w. let j = i.2 w in (c.act.ensures.stays j.0, λ log gs a. reached_act k (omega (arith, l)) (acts_under i.0 (c.in_ok-act.ensures.acts p j.0)) (j.1 log gs a)))
+    (c.act.ensures.kept ∙ i.0, omega (arith, l, i.1), λ w. let j = i.2 w in (c.act.ensures.stays j.0, λ log gs a. reached_act k (omega (arith, l)) (acts_under i.0 (c.in_ok-act-in-Some.ensures.acts p j.0)) (j.1 log gs a)))
