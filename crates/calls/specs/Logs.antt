@@ -1,5 +1,5 @@
 -- A call enters the log: whatever log leaves the sheet as it was, that log with the call leaves it as it is now.
-use Rattle.std.specs.Prelude.{ℕ, List, [], ◌∷◌, ◌++◌}
+use Rattle.std.specs.Prelude.{List, [], ◌∷◌, ◌++◌}
 use Rattle.polynomial.specs.Polynomial.{Poly}
 use Rattle.involutive.specs.Sheet.{Setting, State}
 use Rattle.involutive.specs.Answers.{Answer, rows_now, closed-answer, marked-answer, appended-answer, written, copied_answer, verdict_answer, denied}

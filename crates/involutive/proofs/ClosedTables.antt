@@ -8,7 +8,7 @@ use Rattle.involutive.proofs.Walks
 use Rattle.std.proofs.lemmas.Bool.{cases_eq}
 use Rattle.field.specs.Field.{FieldMeaning}
 use Rattle.monomial.specs.Order.{Compare}
-use Rattle.monomial.specs.Division.{Split, DivisionLaws, Within, Involutive, Next, member}
+use Rattle.monomial.specs.Division.{Split, DivisionLaws, Within, Involutive, Next}
 use Rattle.monomial.specs.Monomial.{exponent, variable, times}
 use Rattle.involutive.specs.Value
 use Rattle.polynomial.specs.Polynomial.{Poly, term}

@@ -7,7 +7,7 @@ use Rattle.polynomial.specs.declared.term.Term.{Term}
 use Rattle.field.specs.Field.{FieldMeaning, FieldLaws}
 use Rattle.monomial.specs.Monomial.{Divides}
 use Rattle.monomial.specs.Order.{Compare}
-use Rattle.monomial.specs.Division.{Split, Within, Involutive, member}
+use Rattle.monomial.specs.Division.{Split, Within, Involutive}
 use Rattle.involutive.specs.Value
 use Rattle.polynomial.specs.Polynomial.{Poly, Over, exponents, Written, leading}
 use Rattle.involutive.specs.Ideal.{Member, SameIdeal}

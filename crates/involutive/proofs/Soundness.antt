@@ -7,7 +7,7 @@ use Rattle.std.proofs.lemmas.Bool.{and_parts, or_cases, eqb-true, cases_eq, both
 use Rattle.std.proofs.lemmas.List.{get_or_append_left, get_or_push}
 use Rattle.polynomial.specs.declared.term.Term.{Term}
 use Rattle.field.specs.Field.{FieldMeaning, FieldLaws}
-use Rattle.monomial.specs.Monomial.{Wide, Bounded, variable, one, times, quotient}
+use Rattle.monomial.specs.Monomial.{Wide, Bounded, variable, one, quotient}
 use Rattle.monomial.specs.Order.{Compare, Under}
 use Rattle.monomial.specs.Division.{Within, Distinct, member}
 use Rattle.polynomial.specs.Polynomial.{Poly, Over, term, exponents, Written, Falling, none, single, more, leading}

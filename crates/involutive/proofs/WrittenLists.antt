@@ -12,7 +12,7 @@ use Rattle.involutive.specs.Value.{Equal, scaled}
 use Rattle.monomial.specs.Order.{Compare, OrderLaws, Under}
 use Rattle.std.specs.Ordering.{ordering_reverse}
 use Rattle.monomial.specs.Division.{Split}
-use Rattle.involutive.specs.Reduction.{Difference, wide}
+use Rattle.involutive.specs.Reduction.{Difference}
 use Rattle.involutive.proofs.Algebra
 use Rattle.involutive.proofs.Algebra.{Base}
 use Rattle.involutive.proofs.Values

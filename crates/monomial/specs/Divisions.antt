@@ -1,12 +1,12 @@
 -- The laws of Janet's and Thomas's divisions, proved once for both.
-use Rattle.std.specs.Prelude.{◌≡◌, ℕ, zero, suc, ◌+◌, ◌-◌, ◌<◌, ◌≤◌, Bool, true, false, cond, not, ◌&&◌, ◌||◌, ◌⊎◌, List, [], ◌∷◌, length, get_or, take, replicate, Some, None, Option, ◌==◌, ◌≢◌, nat_le, slice_index, slice_index_or, refl}
+use Rattle.std.specs.Prelude.{◌≡◌, ℕ, zero, suc, ◌+◌, ◌-◌, ◌<◌, ◌≤◌, Bool, true, false, not, ◌&&◌, ◌||◌, ◌⊎◌, List, [], ◌∷◌, length, get_or, take, replicate, Some, None, Option, ◌==◌, ◌≢◌, nat_le, slice_index, slice_index_or, refl}
 use Rattle.std.proofs.Common.{sym, ◌∙◌, ap, subst, inl, inr, arith, length-set, get_or-set_same, get_or-set_other}
-use Rattle.std.proofs.Math.Decide.{ℕ_discrete, dec_lt, dec_le}
+use Rattle.std.proofs.Math.Decide.{ℕ_discrete, dec_lt}
 use Rattle.std.proofs.lemmas.List.{length-map, get_or-map}
-use Rattle.std.proofs.lemmas.Bool.{and_parts, and_from, and_cases, or_parts, or_cases, cases_Bool, both_ways, leb-true, leb-false, le-leb, lt-leb, not-true, not-false, eq-eqb}
+use Rattle.std.proofs.lemmas.Bool.{and_parts, and_from, and_cases, or_parts, or_cases, cases_Bool, both_ways, leb-true, leb-false, le-leb, not-true, not-false, eq-eqb}
 use Rattle.monomial.specs.declared.Monomial.{Monomial}
 use Rattle.monomial.specs.Lists.{exponents_of}
-use Rattle.monomial.specs.Monomial.{Wide, width, same, exponent, variable, one, times, Divides, quotient}
+use Rattle.monomial.specs.Monomial.{Wide, width, same, exponent, variable, one, times}
 use Rattle.monomial.specs.Division.{Split, member, Within, Distinct, Involutive, Next, Walk, step, walk, DivisionLaws, asked, agrees, largest, janet, thomas}
 use Rattle.monomial.specs.Places.{Agree, agree_all, at_times, at_quotient, length_times, low}
 

@@ -1,9 +1,9 @@
 -- Exponents, place by place; a place counts from 0.
-use Rattle.std.specs.Prelude.{◌≡◌, ℕ, zero, suc, ◌+◌, ◌-◌, ◌<◌, ◌≤◌, List, [], ◌∷◌, length, drop, replicate, slice_index, slice_index_or, refl}
+use Rattle.std.specs.Prelude.{◌≡◌, ℕ, zero, suc, ◌+◌, ◌-◌, ◌<◌, ◌≤◌, List, [], ◌∷◌, length, drop, slice_index, slice_index_or, refl}
 use Rattle.std.proofs.Common.{sym, ap, ◌∙◌, ⊎_elim, arith}
 use Rattle.std.proofs.lemmas.List.{drop_more}
 use Rattle.std.proofs.lemmas.Bool.{cases_lt}
-use Rattle.monomial.specs.Monomial.{Wide, width, exponent, times, quotient, degree, Divides, Bounded}
+use Rattle.monomial.specs.Monomial.{Wide, width, times, quotient, degree, Divides, Bounded}
 
 pub at_times : (u m : List ℕ) → length u ≡ length m → (i : ℕ) → slice_index (times u m) i ≡ slice_index u i + slice_index m i
 at_times [] [] e i = refl

@@ -1,19 +1,19 @@
 -- The first check that fails, term by term; and what passes all checks is acceptable, and nothing else.
-use Rattle.std.proofs.Common.{◌≡◌, ℕ, zero, suc, ◌+◌, ◌-◌, ◌<◌, ◌≤◌, Bool, true, false, cond, ◌&&◌, eqb, ltb, leb, ◌⊎◌, List, [], ◌∷◌, length, get_or, drop, is_ok, Some, None, Decides, Option, Ordering, Less, Equal, Greater, sym, refl, ap, ◌∙◌, subst, ap₂, inl, inr, ⊎_elim, add-one, arith}
+use Rattle.std.proofs.Common.{◌≡◌, ℕ, zero, suc, ◌+◌, ◌-◌, ◌<◌, ◌≤◌, Bool, true, false, cond, eqb, ltb, leb, ◌⊎◌, List, [], ◌∷◌, length, get_or, drop, is_ok, Some, None, Decides, Option, Ordering, Less, Equal, Greater, sym, refl, ap, ◌∙◌, subst, inl, inr, ⊎_elim, add-one, arith}
 use mathlib.Core.List.Memᴰ
 use mathlib.Core.List.{Memᴰ}
 use Rattle.std.specs.Ordering.{is_lt}
 use Rattle.std.proofs.lemmas.List.{drop_more}
-use Rattle.std.proofs.lemmas.Bool.{and_parts, and_from, both_ways, cases_Bool, cases_lt, leb-true, le-leb, ltb-true, ltb-false, lt-ltb, le-ltb, eqb-true, eq-eqb, cond-true, cond-false}
+use Rattle.std.proofs.lemmas.Bool.{and_parts, and_from, both_ways, cases_lt, leb-true, le-leb, ltb-true, lt-ltb, le-ltb, eqb-true, eq-eqb, cond-true, cond-false}
 use Rattle.field.specs.Field.{FieldMeaning}
-use Rattle.monomial.specs.Monomial.{In, Bounded, width}
+use Rattle.monomial.specs.Monomial.{In, Bounded}
 use Rattle.monomial.specs.Order.{Compare}
 use Rattle.monomial.specs.Places.{low}
 use Rattle.polynomial.specs.declared.term.Term.{Term}
 use Rattle.polynomial.specs.declared.refusal.Refusal.{Refusal}
 use Rattle.polynomial.specs.declared.refusal.Refusal.TheVariants.{TooManyTerms, Coefficient, Exponent, NotFalling}
-use Rattle.polynomial.specs.Polynomial.{Poly, exponents, Over, Falling, none, single, more, Written}
-use Rattle.polynomial.specs.Check.{Fits, Acceptable, is_code, small_exponents, has_exponents, below_last, term_fault, or_else, faults, fault, outcome}
+use Rattle.polynomial.specs.Polynomial.{Poly, exponents, Falling, none, single, more}
+use Rattle.polynomial.specs.Check.{Acceptable, is_code, small_exponents, has_exponents, below_last, term_fault, or_else, faults, fault, outcome}
 
 -- exponents that pass the test, place by place
 small_at : (n : ℕ) (m : List ℕ) → small_exponents n m ≡ true → (i : ℕ) → (get_or m i 0 ≤ 40) × (n ≤ i → get_or m i 0 ≡ 0)

@@ -1,5 +1,5 @@
 -- A polynomial is a list of terms. Written down in the one right way its monomials fall and no coefficient is 0.
-use Rattle.std.specs.Prelude.{◌≡◌, ℕ, ◌<◌, List, [], ◌∷◌}
+use Rattle.std.specs.Prelude.{ℕ, ◌<◌, List, [], ◌∷◌}
 use mathlib.Core.List.{Memᴰ}
 use Rattle.polynomial.specs.declared.term.Term.{Term}
 use Rattle.field.specs.Field.{FieldMeaning}

@@ -6,7 +6,7 @@ use Rattle.field.specs.Field.{FieldMeaning, FieldLaws}
 use Rattle.monomial.specs.Monomial.{Wide, In, same}
 use Rattle.monomial.specs.Order.{Compare, OrderLaws, Under}
 use Rattle.polynomial.specs.declared.term.Term.{Term}
-use Rattle.polynomial.specs.Polynomial.{Poly, term, exponents, Over, Falling, none, Written}
+use Rattle.polynomial.specs.Polynomial.{Poly, exponents, Over, Falling, none, Written}
 use Rattle.involutive.specs.Value.{at}
 use Rattle.involutive.proofs.Typing.{positive}
 use Rattle.reduction.specs.Merging.{Sums, code_sum, nothing, left_only, right_only, left_first, right_first, together, cancelled}

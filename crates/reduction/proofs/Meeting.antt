@@ -1,5 +1,5 @@
 -- Adding up, one term s of the multiple at a time: the terms above it are copied, and then it is met.
-use Rattle.std.proofs.Common.{◌≡◌, ℕ, ◌+◌, ◌-◌, ◌<◌, ◌≤◌, Bool, true, false, cond, ◌⊎◌, List, [], ◌∷◌, ◌++◌, length, get_or, take, drop, Less, Equal, Greater, sym, refl, ap, ◌∙◌, subst, inl, inr, append_assoc, arith, length-drop}
+use Rattle.std.proofs.Common.{◌≡◌, ℕ, ◌+◌, ◌-◌, ◌<◌, ◌≤◌, Bool, true, false, cond, ◌⊎◌, [], ◌∷◌, ◌++◌, length, get_or, take, drop, Less, Equal, Greater, sym, refl, ap, ◌∙◌, subst, inl, inr, append_assoc, arith, length-drop}
 use Rattle.std.proofs.lemmas.List.{drop_more, drop_all, take_more, get_or-drop}
 use Rattle.field.specs.Field.{FieldMeaning}
 use Rattle.monomial.specs.Order.{Compare}

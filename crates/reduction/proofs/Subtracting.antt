@@ -1,5 +1,5 @@
 -- From what the code adds up to the difference.
-use Rattle.std.proofs.Common.{◌≡◌, ℕ, ◌<◌, true, false, List, map, ◌∙◌, subst}
+use Rattle.std.proofs.Common.{◌≡◌, ℕ, ◌<◌, true, List, map, ◌∙◌, subst}
 use Rattle.field.specs.Field.{FieldMeaning, FieldLaws}
 use Rattle.monomial.specs.Monomial.{In}
 use Rattle.monomial.specs.Order.{Compare, OrderLaws}

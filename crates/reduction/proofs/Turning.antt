@@ -19,7 +19,7 @@ use Rattle.reduction.specs.declared.refusal.Reason.{Reason}
 use Rattle.reduction.specs.declared.refusal.Reason.TheVariants.{Wide as TooWide, Long}
 use Rattle.reduction.specs.declared.table.Row.{Row}
 use Rattle.reduction.specs.Table.{setting, terms_of, table_of, SoundRow, SoundTable}
-use Rattle.reduction.specs.Search.{LeadDivides, NoRow, NoTerm, Finds, monomial_at}
+use Rattle.reduction.specs.Search.{LeadDivides, NoRow, NoTerm, Finds}
 use Rattle.reduction.specs.Subtraction.{Subtracted, Differs}
 use Rattle.reduction.specs.Reducing.{number}
 use Rattle.reduction.proofs.Acting

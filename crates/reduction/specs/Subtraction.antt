@@ -1,5 +1,5 @@
 -- What subtracting a multiple comes to.
-use Rattle.std.specs.Prelude.{ℕ, ◌<◌, ◌≤◌, List, length, Ok, Err, Result}
+use Rattle.std.specs.Prelude.{ℕ, ◌<◌, ◌≤◌, length, Ok, Err, Result}
 use Rattle.field.specs.Field.{FieldMeaning}
 use Rattle.monomial.specs.Order.{Compare}
 use Rattle.polynomial.specs.Polynomial.{Poly, Written}

@@ -1,5 +1,5 @@
 -- What each command comes to, from the sheet's answer and the text that was written.
-use Rattle.std.proofs.Common.{◌≡◌, ℕ, zero, suc, ◌+◌, ◌-◌, ◌<◌, ◌≤◌, true, false, ltb, List, [], ◌∷◌, ◌++◌, length, get_or, take, drop, is_err, IfOk, Some, None, Ok, Err, Option, Result, sym, refl, ap, ◌∙◌, subst, ap₂, append-nil, Bor}
+use Rattle.std.proofs.Common.{◌≡◌, ℕ, ◌-◌, ◌<◌, ◌≤◌, true, ltb, List, [], ◌∷◌, ◌++◌, length, get_or, take, drop, is_err, IfOk, Ok, Err, Option, Result, sym, ◌∙◌, subst, ap₂, append-nil, Bor}
 use Rattle.std.proofs.lemmas.List.{take_rest}
 use Rattle.std.proofs.lemmas.Bool.{cond-true, lt-ltb}
 use mathlib.Core.Bool.{false≢true}
@@ -10,9 +10,8 @@ use Rattle.replay.specs.Grammar.{byte_of, operands_of}
 use Rattle.replay.specs.Words.{word, term_of, gather, answered, shown, copied, stepped}
 use Rattle.polynomial.specs.Polynomial.{Poly, term}
 use Rattle.involutive.specs.Sheet.{Setting, State}
-use Rattle.involutive.specs.Answers.{Answer, Adds, add_faulty, add_stuck, add_zero, add_full, add_row, Steps, Remains, Shows, FairCopies, Judges}
-use Rattle.involutive.specs.Log.{Call, add, step, remainder, show_row, fair_copy, verdict, After}
-use Rattle.involutive.specs.Sound.{Sound}
+use Rattle.involutive.specs.Answers.{Answer, Adds, add_faulty, add_stuck, add_zero, add_full, add_row, Remains, Shows, FairCopies, Judges}
+use Rattle.involutive.specs.Log.{Call, add, remainder, show_row, fair_copy, verdict, After}
 use Rattle.replay.specs.Replay.{Stepping, Does, gathers, adds, steps, remains, shows, copies, judges, Acts, most_bytes}
 use Rattle.polynomial.specs.Check.{most_terms}
 

@@ -1,5 +1,5 @@
 -- Every setting that a sheet command can make is lawful.
-use Rattle.std.proofs.Common.{◌≡◌, ℕ, Bool, true, false, cond, ◌&&◌, eqb, leb, List, get_or, Some, None, Option, refl, subst, arith}
+use Rattle.std.proofs.Common.{◌≡◌, ℕ, Bool, true, false, cond, ◌&&◌, eqb, leb, List, get_or, Some, None, Option, refl, subst}
 use Rattle.std.proofs.lemmas.Bool.{and_parts, leb-true}
 use Rattle.field.specs.Field.{FieldMeaning, FieldLaws}
 use Rattle.field.specs.Kinds.{field_of}

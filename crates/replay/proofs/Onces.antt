@@ -1,17 +1,16 @@
 -- A command file has one transcript at most.
-use Rattle.std.proofs.Common.{◌≡◌, ℕ, zero, suc, ◌+◌, ◌-◌, ◌<◌, ◌≤◌, List, [], ◌∷◌, ◌++◌, length, get_or, take, drop, Some, None, Option, sym, refl, ap, ◌∙◌, subst, ap₂, arith}
+use Rattle.std.proofs.Common.{◌≡◌, ℕ, suc, ◌+◌, ◌<◌, List, [], ◌++◌, length, get_or, take, drop, Some, None, Option, sym, refl, ap, ◌∙◌, subst, ap₂, arith}
 use lib.Seq.{take-append_seam, drop-append_seam}
 use Rattle.polynomial.specs.Polynomial.{Poly}
 use Rattle.involutive.specs.Reduction.{Refusal}
-use Rattle.involutive.specs.Sheet.{Setting, Lawful, State, empty}
+use Rattle.involutive.specs.Sheet.{Setting, Lawful, State}
 use Rattle.involutive.specs.Answers.{Answer, rows_now, closed-answer, marked-answer, appended-answer, written, copied_answer, verdict_answer, denied, Steps}
-use Rattle.involutive.specs.Log.{Call, step, After}
+use Rattle.involutive.specs.Log.{Call, After}
 use Rattle.involutive.specs.Sound.{Sound}
 use Rattle.involutive.proofs.OneAnswer.{one_answer}
 use Rattle.involutive.proofs.Soundness
-use Rattle.lines.specs.Line.{line}
 use Rattle.replay.specs.Words.{operand_bytes, answered, stepped, refused_line}
-use Rattle.replay.specs.Replay.{Stepping, Does, Runs, CommandAt, Faulty, Making, granted, refused, making, Starts, Transcript}
+use Rattle.replay.specs.Replay.{Stepping, Does, Runs, CommandAt, Faulty, Making, granted, making, Starts, Transcript}
 use Rattle.replay.proofs.Acting.{after_does}
 use Rattle.replay.proofs.Makings.{made_lawful}
 use Rattle.replay.proofs.Playing.{long}

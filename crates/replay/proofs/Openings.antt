@@ -1,5 +1,5 @@
 -- From the first command to the transcript.
-use Rattle.std.proofs.Common.{◌≡◌, ℕ, ◌<◌, List, [], ◌∷◌, ◌++◌, length, get_or, take, drop, Some, None, Ok, Option, sym, refl, ap, ◌∙◌, subst, append_assoc, append-nil, Bor}
+use Rattle.std.proofs.Common.{◌≡◌, ℕ, ◌<◌, List, [], ◌++◌, length, get_or, take, drop, Some, Ok, Option, sym, refl, ap, ◌∙◌, subst, append_assoc, append-nil, Bor}
 use Rattle.involutive.specs.Sheet.{Setting, State, empty}
 use Rattle.involutive.specs.Log.{After}
 use Rattle.lines.specs.Line.{line}

@@ -1,5 +1,5 @@
 -- The commands carried out so far: whatever the rest comes to, the whole comes to.
-use Rattle.std.proofs.Common.{◌≡◌, ℕ, zero, suc, ◌+◌, ◌-◌, ◌<◌, ◌≤◌, cond, List, [], ◌∷◌, ◌++◌, length, get_or, take, drop, Some, None, Ok, Err, Option, Result, sym, refl, ap, ◌∙◌, subst, append_assoc, append-nil, add-one, arith, length-append, length-drop, length-take-le, Bor}
+use Rattle.std.proofs.Common.{◌≡◌, ℕ, zero, suc, ◌+◌, ◌<◌, ◌≤◌, List, [], ◌∷◌, ◌++◌, length, get_or, take, drop, Some, None, Ok, Err, Option, sym, refl, ap, ◌∙◌, subst, append_assoc, append-nil, add-one, arith, length-append, length-take-le, Bor}
 use Rattle.replay.specs.declared.command.Command.{Command}
 use Rattle.replay.specs.declared.command.Command.TheVariants.{Sheet, Term, Add, Steps, Remainder, Row, FairCopy, Verdict}
 use Rattle.replay.specs.declared.command.Fault.{Fault}
@@ -9,7 +9,7 @@ use Rattle.replay.specs.Grammar.{byte_of, operands_of, Reads}
 use Rattle.polynomial.specs.Polynomial.{Poly}
 use Rattle.involutive.specs.Sheet.{Setting, State}
 use Rattle.involutive.specs.Log.{Call, After}
-use Rattle.replay.specs.Replay.{Does, Acts, Appends, Runs, ends, stops, made_again, goes_on, CommandAt, Faulty, unknown, short}
+use Rattle.replay.specs.Replay.{Acts, Appends, Runs, ends, goes_on, CommandAt, Faulty, unknown, short}
 use Rattle.replay.proofs.Acting.{after_does}
 
 pub record Reached (S : Setting) (s₀ : State) (log₀ : List Call) (at₀ : ℕ) (bs₀ before after : List ℕ) (s : State) (g : Poly) (at : ℕ) (bs : List ℕ) : Type 0 where

@@ -1,5 +1,5 @@
 -- The buffers that a replay lends have room for every answer, so a line does not depend on what they held.
-use Rattle.std.proofs.Common.{◌≡◌, ℕ, zero, suc, ◌+◌, ◌-◌, ◌*◌, ◌<◌, ◌≤◌, List, [], ◌∷◌, ◌++◌, length, take, drop, sym, refl, ap, ◌∙◌, subst, ap₂, ⊎_elim, arith, length-append, length-drop}
+use Rattle.std.proofs.Common.{◌≡◌, ℕ, zero, suc, ◌+◌, ◌*◌, ◌≤◌, List, [], ◌∷◌, length, take, drop, sym, refl, ap, ◌∙◌, subst, ap₂, ⊎_elim, arith, length-append, length-drop}
 use mathlib.Core.List.Memᴰ
 use mathlib.Core.List.{Memᴰ}
 use lib.Seq.{take-append_seam}
@@ -11,7 +11,7 @@ use Rattle.polynomial.specs.Polynomial.{Poly, leading, exponents}
 use Rattle.polynomial.specs.Reading.{Wides}
 use Rattle.polynomial.specs.Check.{Fits, most_terms}
 use Rattle.polynomial.specs.Bytes.{poly_bytes, copy_bytes}
-use Rattle.involutive.specs.Reduction.{row, left}
+use Rattle.involutive.specs.Reduction.{row}
 use Rattle.involutive.specs.Sheet.{Setting, Lawful, State, most_rows}
 use Rattle.involutive.specs.Answers.{Answer, Remains, Shows, FairCopies, Selection, Copies, copies, front, remainder_open, remainder_faulty, remainder_stuck, remainder_short, remainder_written, row_absent, row_short, row_written, copy_open, copy_denied, copy_short, copy_written}
 use Rattle.involutive.specs.Sound.{Sound}

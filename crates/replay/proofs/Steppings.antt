@@ -1,12 +1,11 @@
 -- A turn of repeated steps.
-use Rattle.std.proofs.Common.{◌≡◌, ℕ, zero, suc, ◌+◌, ◌-◌, ◌<◌, ◌≤◌, List, [], ◌∷◌, ◌++◌, Some, None, Ok, Err, Option, Result, sym, refl, ap, ◌∙◌, subst, arith}
+use Rattle.std.proofs.Common.{◌≡◌, ℕ, zero, suc, ◌+◌, ◌-◌, ◌<◌, ◌≤◌, List, ◌∷◌, Some, None, Ok, Option, subst, arith}
 use Rattle.involutive.specs.Reduction.{Refusal}
-use Rattle.polynomial.specs.Polynomial.{Poly}
 use Rattle.involutive.specs.Sheet.{Setting, State}
 use Rattle.involutive.specs.Answers.{Answer, closed-answer, marked-answer, appended-answer, denied, Steps}
 use Rattle.calls.specs.declared.answer.Step.{Step}
 use Rattle.calls.specs.Told.{stepped}
-use Rattle.involutive.specs.Log.{Call, step, After}
+use Rattle.involutive.specs.Log.{Call, step}
 use Rattle.replay.specs.Replay.{Stepping, used_up, on_closed, on_denial, marks, appends}
 
 -- whatever the steps left come to, all of them come to

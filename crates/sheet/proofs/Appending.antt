@@ -1,5 +1,5 @@
 -- A polynomial divided by its leading coefficient, as one row more.
-use Rattle.std.proofs.Common.{◌≡◌, ℕ, suc, ◌<◌, true, false, cond, ltb, List, [], ◌∷◌, ◌++◌, map, length, get_or, unwrap_or, sym, refl, ap, ◌∙◌, subst, arith}
+use Rattle.std.proofs.Common.{◌≡◌, ℕ, suc, ◌<◌, false, ltb, List, [], ◌∷◌, ◌++◌, map, length, get_or, unwrap_or, sym, refl, ap, ◌∙◌, subst, arith}
 use mathlib.Core.List.Memᴰ
 use mathlib.Core.List.{map-append}
 use lib.ListN.{length-map}

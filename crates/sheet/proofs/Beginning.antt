@@ -1,6 +1,6 @@
 -- A new sheet is sound.
 use Rattle.std.proofs.Common.{◌≡◌, ℕ, Bool, false, List, [], sym, refl, ap, ◌∙◌, subst, arith}
-use Rattle.involutive.specs.Sheet.{Setting, Lawful, State, empty}
+use Rattle.involutive.specs.Sheet.{Setting, Lawful, empty}
 use Rattle.involutive.specs.Log.{After, made}
 use Rattle.involutive.specs.Sound.{Sound}
 use Rattle.involutive.proofs.Soundness

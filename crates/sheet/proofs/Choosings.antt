@@ -1,7 +1,7 @@
 -- What the search finds on a sound table is the pair that a step takes, or the sheet is closed.
-use Rattle.std.proofs.Common.{◌≡◌, ℕ, zero, suc, ◌+◌, ◌-◌, ◌<◌, ◌≤◌, min, Bool, true, false, not, ◌&&◌, ◌⊎◌, List, [], ◌∷◌, map, length, get_or, set, replicate, Some, None, Option, sym, refl, ap, ◌∙◌, subst, ap₂, inl, inr, ⊎_elim, arith, length-set}
+use Rattle.std.proofs.Common.{◌≡◌, ℕ, zero, suc, ◌+◌, ◌-◌, ◌<◌, ◌≤◌, min, Bool, true, false, not, ◌&&◌, List, [], ◌∷◌, map, length, get_or, set, replicate, Some, None, Option, sym, refl, ap, ◌∙◌, subst, ap₂, inl, inr, ⊎_elim, arith, length-set}
 use mathlib.Core.List.Memᴰ
-use lib.ListN.{length-map, length-replicate}
+use lib.ListN.{length-map}
 use Rattle.std.proofs.lemmas.List.{get_or-replicate}
 use Rattle.std.proofs.lemmas.Bool.{cases_Bool, and_parts, both_ways}
 use Rattle.monomial.specs.Monomial.{Wide, width, one, variable, times}
@@ -19,7 +19,7 @@ use Rattle.sheet.specs.declared.choose.Pick.{Pick}
 use Rattle.sheet.specs.Marks.{marked, state_of}
 use Rattle.sheet.specs.Choosing.{capped_raise, raised, is_open, chosen}
 use Rattle.sheet.proofs.Mapping.{map_at, element}
-use Rattle.sheet.proofs.Smallest.{Best, Holds, Found, Before, choose_found}
+use Rattle.sheet.proofs.Smallest.{Found, Before, choose_found}
 
 some_same : {a b : Bool} → Some a ≡ Some b → a ≡ b
 some_same {a} {b} e = cc

@@ -1,11 +1,9 @@
 -- Whether a sheet is closed, from what the search for a pair finds; and its verdict, from the rows' leading monomials.
-use Rattle.std.proofs.Common.{◌≡◌, ℕ, zero, suc, ◌+◌, ◌-◌, ◌<◌, ◌≤◌, Bool, true, false, not, ◌||◌, ◌⊎◌, List, [], ◌∷◌, length, get_or, is_some, Some, None, Option, Result, sym, refl, ap, ◌∙◌, subst, inl, inr, ⊎_elim, arith}
+use Rattle.std.proofs.Common.{◌≡◌, ℕ, zero, suc, ◌-◌, ◌<◌, ◌≤◌, Bool, true, false, not, ◌||◌, List, [], ◌∷◌, length, get_or, is_some, Some, None, Option, Result, sym, refl, ap, ◌∙◌, subst, ⊎_elim, arith}
 use lib.ListN.{length-map}
 use Rattle.std.proofs.lemmas.Bool.{both_ways, or_cases}
-use Rattle.monomial.specs.Monomial.{width, one, same}
-use Rattle.monomial.specs.Division.{Within}
+use Rattle.monomial.specs.Monomial.{one, same}
 use Rattle.polynomial.specs.Polynomial.{leading}
-use Rattle.involutive.specs.Reduction.{row}
 use Rattle.involutive.specs.Sheet.{Setting, Lawful, State, Closed, Chosen}
 use Rattle.involutive.specs.Sound.{Sound}
 use Rattle.involutive.specs.Answers.{Judges, verdict_answer, FairCopies}

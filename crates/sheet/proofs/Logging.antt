@@ -1,14 +1,14 @@
 -- What a call promises on a whole sheet, from its answer: the sheet is whole again, and the call enters the log.
-use Rattle.std.proofs.Common.{◌≡◌, ℕ, Bool, List, ◌∷◌, IfErr, Ok, Err, Result, refl, ap₂}
+use Rattle.std.proofs.Common.{◌≡◌, ℕ, Bool, List, IfErr, Ok, Err, Result, ap₂}
 use Rattle.polynomial.specs.Polynomial.{Poly}
 use Rattle.involutive.specs.Sheet.{Setting, Lawful, State}
-use Rattle.involutive.specs.Answers.{Answer, Adds, Steps}
+use Rattle.involutive.specs.Answers.{Adds}
 use Rattle.involutive.specs.Log.{Call, After}
 use Rattle.involutive.specs.Log as log_of
 use Rattle.involutive.proofs.Soundness
 use Rattle.calls.specs.declared.refusal.Refusal.{Refusal}
 use Rattle.calls.specs.Told.{added}
-use Rattle.calls.specs.Logs.{LoggedAdd, Logged}
+use Rattle.calls.specs.Logs.{LoggedAdd}
 use Rattle.reduction.specs.declared.table.Row.{Row}
 use Rattle.reduction.specs.Table.{SoundTable}
 use Rattle.sheet.specs.declared.marks.Marks.{Marks}

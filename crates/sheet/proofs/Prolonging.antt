@@ -1,5 +1,5 @@
 -- A row times a variable, from the multiple that was made.
-use Rattle.std.proofs.Common.{◌≡◌, ℕ, ◌-◌, ◌<◌, Bool, true, false, ◌⊎◌, List, [], length, get_or, MatchBool, sym, refl, ap, ◌∙◌, subst, ap₂, ⊎_elim, arith}
+use Rattle.std.proofs.Common.{◌≡◌, ℕ, ◌-◌, ◌<◌, Bool, true, false, ◌⊎◌, List, [], length, get_or, MatchBool, sym, ◌∙◌, subst, ap₂, ⊎_elim, arith}
 use Rattle.field.specs.Field.{FieldMeaning}
 use Rattle.monomial.specs.Monomial.{variable}
 use Rattle.monomial.specs.Order.{Compare}

@@ -1,14 +1,13 @@
 -- What a remainder and a row answer, from what was put to the front of the lent terms.
-use Rattle.std.proofs.Common.{◌≡◌, ℕ, ◌-◌, ◌<◌, ◌≤◌, List, [], length, get_or, None, Ok, Err, Result, sym, refl, ap, ◌∙◌, subst, arith, MatchResult}
+use Rattle.std.proofs.Common.{◌≡◌, ℕ, ◌-◌, ◌≤◌, List, [], length, get_or, None, Ok, Err, Result, sym, subst, arith, MatchResult}
 use lib.ListN.{length-map}
 use Rattle.monomial.specs.Division.{Within}
 use Rattle.polynomial.specs.Polynomial.{Poly}
 use Rattle.polynomial.specs.Check.{most_terms}
 use Rattle.involutive.specs.Reduction.{row, left}
 use Rattle.involutive.specs.Sheet.{Setting, State, Closed}
-use Rattle.involutive.specs.Answers.{Answer, front, written, denied, first_fault, ReducesTo, Remains, remainder_short, remainder_written, Shows, row_short, row_written}
+use Rattle.involutive.specs.Answers.{front, written, denied, first_fault, ReducesTo, Remains, remainder_short, remainder_written, Shows, row_short, row_written}
 use Rattle.calls.specs.declared.refusal.Refusal.{Refusal}
-use Rattle.calls.specs.declared.refusal.Refusal.TheVariants.{Short}
 use Rattle.calls.specs.Told.{told, wrote}
 use Rattle.reduction.specs.declared.table.Row.{Row}
 use Rattle.reduction.specs.Table.{terms_of, table_of}

@@ -1,5 +1,5 @@
 -- What became of a polynomial that was reduced and, where something is left of it, appended.
-use Rattle.std.proofs.Common.{◌≡◌, ℕ, ◌<◌, ◌≤◌, Bool, true, false, ltb, List, [], ◌∷◌, length, Ok, Err, MatchBool, sym, refl, ap, ◌∙◌, subst, arith}
+use Rattle.std.proofs.Common.{◌≡◌, ℕ, ◌<◌, ◌≤◌, Bool, true, false, ltb, List, [], ◌∷◌, length, Ok, Err, MatchBool, sym, refl, subst, arith}
 use mathlib.Core.List.Memᴰ
 use lib.ListN.{length-map}
 use Rattle.std.proofs.lemmas.Bool.{ltb-true, ltb-false}
@@ -7,13 +7,13 @@ use Rattle.monomial.specs.Monomial.{one}
 use Rattle.polynomial.specs.Polynomial.{Poly, Over, leading, leading_coefficient}
 use Rattle.polynomial.specs.Check.{Acceptable, Fits, most_terms}
 use Rattle.involutive.specs.Value.{scaled}
-use Rattle.involutive.specs.Reduction.{Outcome, left, refused}
+use Rattle.involutive.specs.Reduction.{Outcome, left}
 use Rattle.involutive.specs.Sheet.{Setting, Lawful, State, most_rows, with_row}
 use Rattle.involutive.specs.Answers.{ReducesTo}
 use Rattle.involutive.proofs.Soundness
 use Rattle.calls.specs.declared.refusal.Refusal.TheVariants.{Full}
 use Rattle.reduction.specs.declared.table.Row.{Row}
-use Rattle.reduction.specs.Table.{terms_of, table_of, SoundTable}
+use Rattle.reduction.specs.Table.{terms_of, SoundTable}
 use Rattle.sheet.specs.declared.settle.Settled.TheVariants.{Nothing, Appended as Settled-as-Appended}
 use Rattle.sheet.specs.Marks.{marked, state_of}
 use Rattle.sheet.specs.Rows.{Appended}

@@ -1,17 +1,15 @@
 -- One row more leaves a sound table.
-use Rattle.std.proofs.Common.{◌≡◌, ℕ, zero, suc, ◌+◌, ◌-◌, ◌<◌, ◌≤◌, Bool, false, ◌⊎◌, List, [], ◌∷◌, ◌++◌, map, length, get_or, Some, None, Option, unwrap_or, sym, refl, ap, ◌∙◌, subst, ap₂, ⊎_elim, arith, length-append}
-use mathlib.Core.List.{map-append}
+use Rattle.std.proofs.Common.{◌≡◌, ℕ, suc, ◌+◌, ◌-◌, ◌<◌, ◌≤◌, Bool, false, List, [], ◌∷◌, map, length, get_or, Some, Option, unwrap_or, sym, refl, ap, ◌∙◌, subst, ap₂, ⊎_elim, arith, length-append}
 use lib.ListN.{length-map}
 use Rattle.std.proofs.lemmas.List.{get_or_append_left, get_or_push}
 use Rattle.std.proofs.lemmas.Bool.{cases_lt}
-use Rattle.monomial.specs.Monomial.{width}
-use Rattle.monomial.specs.Division.{Within, DivisionLaws}
+use Rattle.monomial.specs.Division.{DivisionLaws}
 use Rattle.polynomial.specs.Polynomial.{Poly, leading}
 use Rattle.involutive.specs.Reduction.{leaders}
 use Rattle.involutive.specs.Sheet.{Setting}
 use Rattle.involutive.specs.Sound.{Row as Good}
 use Rattle.reduction.specs.declared.table.Row.{Row}
-use Rattle.reduction.specs.Table.{terms_of, table_of, SoundRow, SoundTable}
+use Rattle.reduction.specs.Table.{terms_of, table_of, SoundTable}
 use Rattle.sheet.specs.Rows.{lead_of, flags_of, Appended}
 use Rattle.sheet.proofs.Mapping.{map_at, element}
 

@@ -1,5 +1,5 @@
 -- What a step answers, from what became of the prolongation of its pair.
-use Rattle.std.proofs.Common.{◌≡◌, ℕ, ◌≤◌, Bool, true, false, ◌&&◌, ◌||◌, eqb, List, length, Ok, Err, MatchBool, Result, sym, refl, ap, ◌∙◌, subst}
+use Rattle.std.proofs.Common.{◌≡◌, ℕ, ◌≤◌, Bool, ◌&&◌, ◌||◌, eqb, List, Ok, Err, MatchBool, Result, sym, subst}
 use Rattle.monomial.specs.Monomial.{variable}
 use Rattle.polynomial.specs.Polynomial.{Poly}
 use Rattle.polynomial.specs.Check.{Acceptable, Fits, most_terms}

@@ -1,8 +1,8 @@
 -- The parts of rows, and what asking a division anew leaves of them.
-use Rattle.std.specs.Prelude.{◌≡◌, ℕ, suc, ◌-◌, ◌<◌, Bool, false, List, [], ◌∷◌, ◌++◌, map, length, slice_index_or}
+use Rattle.std.specs.Prelude.{◌≡◌, ℕ, suc, ◌<◌, Bool, false, List, [], ◌∷◌, ◌++◌, map, length, slice_index_or}
 use Rattle.std.specs.Option.{unwrap_or}
 use Rattle.monomial.specs.Monomial.{width}
-use Rattle.monomial.specs.Division.{Split, Within}
+use Rattle.monomial.specs.Division.{Split}
 use Rattle.polynomial.specs.Polynomial.{Poly}
 use Rattle.reduction.specs.declared.table.Row.{Row}
 use Rattle.reduction.specs.Table.{table_of}

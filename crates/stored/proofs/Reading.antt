@@ -1,18 +1,16 @@
 -- Reading row after row: whatever the rest comes to, the whole comes to.
-use Rattle.std.proofs.Common.{◌≡◌, ℕ, ◌+◌, ◌-◌, ◌<◌, ◌≤◌, List, [], ◌∷◌, ◌++◌, map, length, Some, None, Ok, Err, vec_items, sym, refl, ap, ◌∙◌, subst, arith, length-append}
+use Rattle.std.proofs.Common.{◌≡◌, ℕ, ◌+◌, ◌-◌, ◌<◌, ◌≤◌, List, [], ◌∷◌, ◌++◌, map, length, Err, vec_items, sym, refl, ap, ◌∙◌, subst, arith, length-append}
 use Rattle.std.proofs.lemmas.List.{map_push}
 use Rattle.field.specs.Field.{FieldMeaning}
 use Rattle.monomial.specs.Lists.{exponents_of}
 use Rattle.monomial.specs.Order.{Compare}
 use Rattle.polynomial.specs.Polynomial.{Poly, leading}
 use Rattle.polynomial.specs.Bytes.{poly_bytes}
-use Rattle.polynomial.specs.Reading.{IsRun}
-use Rattle.stored.specs.declared.fault.Reason.{Reason}
 use Rattle.stored.specs.declared.fault.Fault.{Fault}
 use Rattle.stored.specs.declared.fault.Fault.TheVariants.{Bad, Memory}
 use Rattle.stored.specs.declared.rows.Rows.{Rows}
 use Rattle.stored.specs.Stored.{Outcome, bad, Reads, row, no_row, no_record, row_fault, behind}
-use Rattle.stored.specs.Rows.{Appended, NotAppended, no_record as absent, no_row as refused, AppendsRow, Beside, Fails, polys}
+use Rattle.stored.specs.Rows.{Appended, no_record as absent, no_row as refused, AppendsRow, Beside, Fails, polys}
 
 fails_map : (P Q : Outcome → Type 0) (e : Fault) → ((o : Outcome) → P o → Q o) → Fails P e → Fails Q e
 fails_map P Q (Bad why at) f h = f (bad why at) h

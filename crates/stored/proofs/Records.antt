@@ -1,12 +1,12 @@
 -- Reading one record.
-use Rattle.std.proofs.Common.{◌≡◌, ℕ, ◌+◌, ◌-◌, ◌^◌, ◌<◌, ◌≤◌, List, [], ◌∷◌, ◌++◌, length, get_or, take, drop, Ok, Err, sym, refl, ap, ◌∙◌, subst, arith, length-append}
-use Rattle.std.proofs.lemmas.List.{take_rest, drop_more}
+use Rattle.std.proofs.Common.{◌≡◌, ℕ, ◌+◌, ◌-◌, ◌^◌, ◌<◌, ◌≤◌, List, [], ◌∷◌, length, get_or, take, drop, Err, refl, ap, subst, arith, length-append}
+use Rattle.std.proofs.lemmas.List.{take_rest}
 use Rattle.polynomial.specs.declared.bytes.NoRun.{NoRun}
 use Rattle.polynomial.specs.declared.bytes.NoRun.TheVariants.{Cut, Memory as NoMemory}
 use Rattle.polynomial.specs.Polynomial.{Poly}
 use Rattle.polynomial.specs.Bytes.{poly_bytes}
 use Rattle.polynomial.specs.Reading.{IsRun, IsCut, ReadsRun}
-use Rattle.stored.specs.declared.fault.Reason.TheVariants.{CutTerm, OpenRecord, OtherByte}
+use Rattle.stored.specs.declared.fault.Reason.TheVariants.{OpenRecord, OtherByte}
 use Rattle.stored.specs.Stored.{NoRecord, cut, open_end, other}
 use Rattle.stored.specs.Record.{ReadsRecord, WithinFile, fault_of}
 

@@ -1,5 +1,5 @@
 -- The rows of a stored table, one behind the other.
-use Rattle.std.proofs.Common.{◌≡◌, ℕ, suc, ◌+◌, ◌-◌, ◌*◌, ◌<◌, ◌≤◌, Bool, true, false, cond, ◌||◌, eqb, ltb, ◌⊎◌, List, [], ◌∷◌, ◌++◌, map, length, get_or, drop, is_ok, Some, None, Ok, Err, Option, Result, sym, refl, ap, ◌∙◌, subst, ap₂, inl, inr, arith}
+use Rattle.std.proofs.Common.{◌≡◌, ℕ, suc, ◌+◌, ◌<◌, ◌≤◌, Bool, true, false, cond, ◌||◌, eqb, ltb, ◌⊎◌, List, [], ◌∷◌, ◌++◌, map, length, get_or, drop, is_ok, Some, None, Ok, Err, Option, Result, sym, refl, ap, ◌∙◌, subst, inl, inr, arith}
 use Rattle.std.proofs.lemmas.List.{at_drop_more, length-map, map-append}
 use Rattle.std.proofs.lemmas.Bool.{eq-eqb, ne_eqb, lt-ltb, le-ltb, cond-true, cond-false, cases_lt}
 use Rattle.field.specs.Field.{FieldMeaning}
@@ -9,7 +9,7 @@ use Rattle.monomial.specs.Lists.{exponents_of}
 use Rattle.monomial.specs.Order.{Compare}
 use Rattle.polynomial.specs.declared.term.Term.{Term}
 use Rattle.polynomial.specs.declared.refusal.Refusal.{Refusal}
-use Rattle.polynomial.specs.Polynomial.{Poly, exponents, leading, term}
+use Rattle.polynomial.specs.Polynomial.{Poly, exponents, leading}
 use Rattle.polynomial.specs.declared.refusal.Refusal.TheVariants.{TooManyTerms, Coefficient, Exponent, NotFalling}
 use Rattle.polynomial.specs.Check.{fault, faults, term_fault, or_else, is_code, has_exponents, below_last, place, outcome}
 use Rattle.polynomial.proofs.Checking.{fault_long, fault_short}

@@ -1,12 +1,11 @@
 -- A stored table: a sheet command, then records, each a row's terms closed by 02. What reading it comes to.
-use Rattle.std.specs.Prelude.{◌≡◌, ℕ, ◌+◌, ◌-◌, ◌*◌, ◌/◌, ◌%◌, ◌<◌, Bool, true, false, cond, ◌||◌, List, [], ◌∷◌, ◌++◌, map, length, Some, None, Ok, Err, string_bytes, Option, Result, String, ◌==◌, ◌≢◌, nat_lt}
+use Rattle.std.specs.Prelude.{◌≡◌, ℕ, ◌+◌, ◌-◌, ◌*◌, ◌/◌, ◌%◌, ◌<◌, Bool, false, cond, ◌||◌, List, [], ◌∷◌, ◌++◌, map, length, Some, None, Ok, Err, string_bytes, Option, Result, String, ◌==◌, ◌≢◌, nat_lt}
 use Rattle.std.specs.declared.alloc.Global.{Global}
 use Rattle.field.specs.Field.{FieldMeaning}
 use Rattle.field.specs.Kinds.{field_of}
 use Rattle.monomial.specs.Monomial.{same, width}
 use Rattle.monomial.specs.Order.{Compare, order_of}
 use Rattle.monomial.specs.Division.{Split, Within, division_of}
-use Rattle.polynomial.specs.declared.term.Term.{Term}
 use Rattle.polynomial.specs.declared.refusal.Refusal.{Refusal}
 use Rattle.polynomial.specs.Polynomial.{Poly, exponents, leading}
 use Rattle.polynomial.specs.Check.{fault, place}

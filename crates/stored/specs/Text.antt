@@ -1,5 +1,5 @@
 -- A table as people write it: a line on the setting, then a line for each row.
-use Rattle.std.specs.Prelude.{ℕ, zero, suc, Bool, true, false, cond, not, ◌||◌, List, [], ◌∷◌, ◌++◌, map, length, Some, None, codes, decimal, Option, ◌==◌, nat_lt}
+use Rattle.std.specs.Prelude.{ℕ, zero, suc, Bool, false, cond, not, ◌||◌, List, [], ◌∷◌, ◌++◌, map, length, Some, None, codes, decimal, Option, ◌==◌, nat_lt}
 use Rattle.monomial.specs.Monomial.{degree}
 use Rattle.monomial.specs.Division.{Split}
 use Rattle.polynomial.specs.declared.term.Term.{Term}

@@ -1,4 +1,4 @@
-use Rattle.std.proofs.Common.{◌≡◌, refl, arith, rules}
+use Rattle.std.proofs.Common.{refl, arith, rules}
 use Rattle.monomial.specs.Monomial.{Wide}
 use Rattle.monomial.specs.Places.{divides_from_places, not_divides}
 use Rattle.monomial.proofs.Monomial.divides.Goals as goal

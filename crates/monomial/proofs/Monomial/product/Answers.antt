@@ -1,4 +1,4 @@
-use Rattle.std.proofs.Common.{◌≡◌, sym, subst, arith, rules}
+use Rattle.std.proofs.Common.{◌≡◌, subst, arith, rules}
 use Rattle.monomial.specs.Monomial.{Wide, Bounded, times}
 use Rattle.monomial.specs.Places.{at_times, not_bounded, bounded_from_places, product_from_places}
 use Rattle.monomial.proofs.Monomial.product.Goals as goal

@@ -1,4 +1,4 @@
-use Rattle.std.proofs.Common.{◌≡◌, ◌<◌, ◌≤◌, length, take, sym, ◌∙◌, ap₂, arith, length-take, rules}
+use Rattle.std.proofs.Common.{◌≤◌, length, take, sym, ◌∙◌, ap₂, arith, length-take, rules}
 use Rattle.std.proofs.lemmas.List.{drop_all}
 use Rattle.monomial.specs.Monomial.{same}
 use Rattle.monomial.proofs.Agreeing.{same_differs, same_more}

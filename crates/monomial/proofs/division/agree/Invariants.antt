@@ -1,4 +1,4 @@
-use Rattle.std.proofs.Common.{◌≡◌, ◌-◌, take, drop}
+use Rattle.std.proofs.Common.{◌≡◌, take, drop}
 use Rattle.monomial.specs.Monomial.{same}
 use Rattle.monomial.proofs.division.agree.Given as goal
 

@@ -1,4 +1,4 @@
-use Rattle.std.proofs.Common.{◌≡◌, ◌≤◌, length, sym, ◌∙◌, ap₂, arith, rules}
+use Rattle.std.proofs.Common.{◌≤◌, length, sym, ◌∙◌, ap₂, arith, rules}
 use Rattle.std.proofs.lemmas.List.{drop_all}
 use Rattle.monomial.specs.Order.{lexicographic}
 use Rattle.monomial.proofs.Comparing.{from_less, from_more, from_same}

@@ -1,4 +1,4 @@
-use Rattle.std.proofs.Common.{◌≡◌, ℕ, ◌-◌, length, Err, vec_items, sym, ◌∙◌, arith, rules}
+use Rattle.std.proofs.Common.{ℕ, ◌-◌, length, Err, vec_items, sym, ◌∙◌, arith}
 use Rattle.polynomial.specs.declared.bytes.NoRun.TheVariants.{Cut as CutAt}
 use Rattle.polynomial.specs.Reading.{IsRun, IsCut}
 use Rattle.polynomial.proofs.Codec.{run_start, run_more, run_within, behind_shorter, pushed_term, run_once, reads_back}

@@ -1,4 +1,4 @@
-use Rattle.std.proofs.Common.{ℕ, ◌≤◌, List, ◌++◌, map, length, drop, vec_items}
+use Rattle.std.proofs.Common.{◌≤◌, ◌++◌, map, length, drop, vec_items}
 use Rattle.polynomial.specs.Polynomial.{Poly}
 use Rattle.reduction.specs.Merging.{Sums, image}
 use Rattle.reduction.proofs.merge.add_multiple.Given as goal

@@ -1,4 +1,4 @@
-use Rattle.std.proofs.Common.{◌≡◌, ℕ, ◌-◌, true, false, List, [], ◌∷◌, ◌++◌, length, take, drop, sym, subst, arith, rules}
+use Rattle.std.proofs.Common.{◌≡◌, ℕ, ◌-◌, true, false, [], ◌∷◌, ◌++◌, length, take, drop, sym, subst, arith}
 use Rattle.field.specs.Field.{FieldMeaning}
 use Rattle.polynomial.specs.Polynomial.{Poly, term}
 use Rattle.reduction.specs.Merging.{Sums}

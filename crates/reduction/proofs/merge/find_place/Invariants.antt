@@ -1,4 +1,4 @@
-use Rattle.std.proofs.Common.{ℕ, ◌-◌, List, ◌∷◌, ◌++◌, take, drop}
+use Rattle.std.proofs.Common.{◌-◌, ◌∷◌, ◌++◌, take, drop}
 use Rattle.field.specs.Field.{FieldMeaning}
 use Rattle.polynomial.specs.Polynomial.{Poly}
 use Rattle.reduction.specs.Merging.{Sums}

@@ -1,4 +1,4 @@
-use Rattle.std.proofs.Common.{◌≡◌, arith, rules}
+use Rattle.std.proofs.Common.{arith, rules}
 use Rattle.monomial.specs.Monomial.{Wide}
 use Rattle.reduction.proofs.Multiples.{capped_from_places}
 use Rattle.reduction.proofs.merge.multiply.Goals as goal

@@ -1,4 +1,4 @@
-use Rattle.std.proofs.Common.{◌≡◌, ℕ, min, List, drop, vec_items, sym, ap, ◌∙◌, subst}
+use Rattle.std.proofs.Common.{ℕ, min, List, drop, vec_items, sym, ap, ◌∙◌, subst}
 use Rattle.std.proofs.lemmas.List.{take_rest}
 use Rattle.monomial.specs.Monomial.{In}
 use Rattle.polynomial.specs.Polynomial.{Poly, Written}

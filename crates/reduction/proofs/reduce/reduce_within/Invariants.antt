@@ -1,4 +1,4 @@
-use Rattle.std.proofs.Common.{ℕ, ◌≤◌, List, length, vec_items}
+use Rattle.std.proofs.Common.{ℕ, ◌≤◌, length, vec_items}
 use Rattle.monomial.specs.Division.{Split}
 use Rattle.polynomial.specs.Check.{Acceptable, most_terms}
 use Rattle.reduction.specs.Table.{setting, table_of, SoundTable}

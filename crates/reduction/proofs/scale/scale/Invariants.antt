@@ -1,4 +1,4 @@
-use Rattle.std.proofs.Common.{◌≡◌, List, map, take, vec_items}
+use Rattle.std.proofs.Common.{◌≡◌, map, take, vec_items}
 use Rattle.reduction.specs.Merging.{image}
 use Rattle.reduction.proofs.scale.scale.Given as goal
 

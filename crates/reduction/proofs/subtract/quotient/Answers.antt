@@ -1,4 +1,4 @@
-use Rattle.std.proofs.Common.{◌≡◌, sym, ◌∙◌, arith, rules}
+use Rattle.std.proofs.Common.{sym, ◌∙◌, arith, rules}
 use Rattle.monomial.specs.Monomial.{Wide, quotient}
 use Rattle.monomial.specs.Places.{agree_all, at_quotient, length_quotient}
 use Rattle.reduction.proofs.subtract.quotient.Goals as goal

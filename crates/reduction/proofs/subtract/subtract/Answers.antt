@@ -1,4 +1,4 @@
-use Rattle.std.proofs.Common.{◌≡◌, true, false, sym, arith}
+use Rattle.std.proofs.Common.{◌≡◌, sym, arith}
 use Rattle.reduction.specs.Merging.{code_negative}
 use Rattle.reduction.proofs.Multiples.{fits_yes, fits_no}
 use Rattle.reduction.proofs.Subtracting.{differs}

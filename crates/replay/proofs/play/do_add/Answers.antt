@@ -1,5 +1,4 @@
-use Rattle.std.proofs.Common.{◌≡◌, sym, refl, ap, ◌∙◌, subst, arith, rules}
-use Rattle.replay.proofs.Acting.{made_then, acts_add, acts_steps, acts_remainder, acts_row, acts_copy, acts_verdict}
+use Rattle.replay.proofs.Acting.{made_then, acts_add}
 use Rattle.replay.proofs.play.do_add.Goals as goal
 
 pub returns : goal.returns

@@ -1,4 +1,4 @@
-use Rattle.std.proofs.Common.{◌≡◌, vec_items, arith}
+use Rattle.std.proofs.Common.{vec_items, arith}
 use Rattle.replay.proofs.Acting.{gather_more}
 use Rattle.replay.proofs.play.do_term.Goals as goal
 

@@ -1,4 +1,4 @@
-use Rattle.std.proofs.Common.{◌≡◌, [], length, drop, vec_items, sym, refl, ap, ◌∙◌, subst, append-nil, arith, length-drop, rules}
+use Rattle.std.proofs.Common.{[], length, sym, refl, ap, ◌∙◌, append-nil, arith, length-drop}
 use Rattle.std.proofs.lemmas.List.{take_rest}
 use Rattle.replay.specs.Replay.{stops, made_again}
 use Rattle.replay.proofs.Acting.{made_then}

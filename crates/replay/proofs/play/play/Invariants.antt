@@ -1,4 +1,4 @@
-use Rattle.std.proofs.Common.{◌≡◌, ℕ, ◌+◌, ◌≤◌, List, length, drop, vec_items}
+use Rattle.std.proofs.Common.{◌≡◌, ◌+◌, List, length, drop, vec_items}
 use Rattle.polynomial.specs.Polynomial.{Poly}
 use Rattle.involutive.specs.Log.{Call, After}
 use Rattle.replay.proofs.Playing.{Reached}

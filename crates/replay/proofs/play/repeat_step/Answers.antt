@@ -1,8 +1,5 @@
-use Rattle.std.proofs.Common.{◌≡◌, List, Ok, Err, Result, sym, refl, ◌∙◌, subst, arith, rules}
-use Rattle.involutive.specs.Reduction.{Refusal}
-use Rattle.involutive.specs.Sheet.{Setting, State}
-use Rattle.involutive.specs.Answers.{Steps}
-use Rattle.replay.proofs.Steppings.{Stood, stood_first, stood_mark, stood_append, stood_closed, stood_denied, stood_out, said, known}
+use Rattle.std.proofs.Common.{refl, ◌∙◌, arith}
+use Rattle.replay.proofs.Steppings.{stood_first, stood_mark, stood_append, stood_closed, stood_denied, stood_out, said, known}
 use Rattle.replay.proofs.play.repeat_step.Goals as goal
 
 pub loop-left-init : goal.loop-left-init

@@ -1,4 +1,4 @@
-use Rattle.std.proofs.Common.{◌≡◌, ℕ, ◌+◌, ◌≤◌, List}
+use Rattle.std.proofs.Common.{◌≡◌, ◌+◌, ◌≤◌, List}
 use Rattle.involutive.specs.Log.{Call}
 use Rattle.replay.proofs.Steppings.{Stood}
 use Rattle.replay.proofs.play.repeat_step.Given as goal

@@ -1,4 +1,4 @@
-use Rattle.std.proofs.Common.{◌≡◌, ℕ, suc, ◌+◌, length, drop, None, sym, refl, ap, ◌∙◌, subst, arith, rules}
+use Rattle.std.proofs.Common.{◌≡◌, suc, ◌+◌, length, drop, None, sym, ap, ◌∙◌, subst, arith}
 use Rattle.sheet.specs.Marks.{rows_of}
 use Rattle.sheet.specs.Choosing.{chosen}
 use Rattle.sheet.proofs.Searching.{choose_step, choose_end, In, chosen_in}

@@ -1,6 +1,6 @@
-use Rattle.std.proofs.Common.{◌≡◌, ℕ, suc, ◌+◌, ◌-◌, List, sym, refl, ap, ◌∙◌, arith, rules}
+use Rattle.std.proofs.Common.{◌≡◌, suc, ◌+◌, ◌-◌, sym, ap, ◌∙◌}
 use Rattle.sheet.specs.Marks.{rows_of}
-use Rattle.sheet.specs.Choosing.{scanned, consider, raised}
+use Rattle.sheet.specs.Choosing.{scanned, consider}
 use Rattle.sheet.proofs.Searching.{scan_step, scan_end, taken, passed}
 use Rattle.sheet.proofs.choose.scan.Goals as goal
 use Rattle.sheet.proofs.choose.scan.Goals.{then-is_open, else-is_open}

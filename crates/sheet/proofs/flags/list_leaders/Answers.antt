@@ -1,4 +1,4 @@
-use Rattle.std.proofs.Common.{◌≡◌, map, vec_items, sym, refl, ap, ◌∙◌, arith, take_all, rules}
+use Rattle.std.proofs.Common.{map, vec_items, ap, ◌∙◌, arith, take_all, rules}
 use mathlib.Core.List.{map-append}
 use Rattle.monomial.specs.Lists.{exponents_of}
 use Rattle.sheet.specs.Rows.{lead_of}

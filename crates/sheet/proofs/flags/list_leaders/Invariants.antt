@@ -1,4 +1,4 @@
-use Rattle.std.proofs.Common.{◌≡◌, ◌≤◌, map, take, vec_items, vec_len, vec_capacity}
+use Rattle.std.proofs.Common.{◌≡◌, map, take, vec_items, vec_len, vec_capacity}
 use Rattle.monomial.specs.Lists.{exponents_of}
 use Rattle.sheet.specs.Rows.{lead_of}
 use Rattle.sheet.proofs.flags.list_leaders.Given as goal

@@ -1,4 +1,4 @@
-use Rattle.std.proofs.Common.{◌≡◌, ℕ, suc, ◌+◌, ◌<◌, Bool, List, [], map, length, get_or, set, sym, refl, ap, ◌∙◌, subst, ⊎_elim, add-one, arith, rules}
+use Rattle.std.proofs.Common.{ℕ, suc, ◌+◌, ◌<◌, Bool, List, [], map, length, get_or, set, sym, ◌∙◌, subst, ⊎_elim, add-one, arith, rules}
 use Rattle.std.proofs.lemmas.Bool.{cases_eq}
 use Rattle.monomial.specs.Lists.{exponents_of}
 use Rattle.reduction.specs.Table.{terms_of}

@@ -1,4 +1,4 @@
-use Rattle.std.proofs.Common.{◌≡◌, ℕ, suc, ◌<◌, List, [], map, get_or}
+use Rattle.std.proofs.Common.{◌≡◌, ℕ, suc, ◌<◌, [], map, get_or}
 use Rattle.monomial.specs.Lists.{exponents_of}
 use Rattle.reduction.specs.Table.{table_of}
 use Rattle.sheet.specs.Rows.{lead_of, flags_of, Asked}

@@ -1,4 +1,4 @@
-use Rattle.std.proofs.Common.{◌≡◌, ℕ, ◌<◌, ◌⊎◌, length, vec_items, MatchBool, subst}
+use Rattle.std.proofs.Common.{◌≡◌, ◌<◌, ◌⊎◌, length, vec_items, MatchBool, subst}
 use Rattle.polynomial.specs.Polynomial.{Over}
 use Rattle.polynomial.specs.Check.{Fits, most_terms}
 use Rattle.involutive.specs.Value.{scaled}

@@ -1,8 +1,8 @@
-use Rattle.std.proofs.Common.{◌≡◌, ℕ, ◌<◌, ◌≤◌, List, length, Ok, Err, vec_items, vec_len, sym, refl, ap, ◌∙◌, subst, arith, rules}
+use Rattle.std.proofs.Common.{◌≡◌, ◌≤◌, List, length, Err, vec_items, vec_len, sym, refl, subst, arith, rules}
 use Rattle.std.proofs.lemmas.Bool.{eqb-true, eqb-false}
 use Rattle.polynomial.specs.Check.{most_terms}
 use Rattle.involutive.specs.Reduction.{left, refused}
-use Rattle.involutive.specs.Sheet.{Setting, Lawful}
+use Rattle.involutive.specs.Sheet.{Lawful}
 use Rattle.involutive.specs.Answers.{ReducesTo}
 use Rattle.calls.specs.declared.refusal.Refusal.TheVariants.{Full}
 use Rattle.reduction.specs.declared.table.Row.{Row}

@@ -1,4 +1,4 @@
-use Rattle.std.proofs.Common.{◌≡◌, true, false, vec_items, refl}
+use Rattle.std.proofs.Common.{true, false, vec_items, refl}
 use Rattle.involutive.specs.Sheet.{Lawful}
 use Rattle.reduction.specs.Table.{setting}
 use Rattle.sheet.specs.Marks.{rows_of}

@@ -1,4 +1,4 @@
-use Rattle.std.proofs.Common.{◌≡◌, ◌-◌, length, Err, vec_items, sym, refl, subst, arith, ltb-false, ltb-true}
+use Rattle.std.proofs.Common.{◌-◌, length, Err, vec_items, sym, refl, subst, arith, ltb-false, ltb-true}
 use Rattle.stored.specs.Record.{ReadsRecord}
 use Rattle.stored.proofs.Records.{rest_within, within_file, no_run, closed_run, open_run, other_run}
 use Rattle.stored.proofs.record.read_record.Goals as goal

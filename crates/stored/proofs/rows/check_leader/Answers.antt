@@ -1,4 +1,4 @@
-use Rattle.std.proofs.Common.{◌≡◌, ◌<◌, true, false, [], length, sym, ◌∙◌, arith, eqb-true}
+use Rattle.std.proofs.Common.{◌<◌, true, false, [], length, sym, arith, eqb-true}
 use borrow.Author.Tests.{eqb-false}
 use Rattle.polynomial.specs.Polynomial.{term}
 use Rattle.monomial.specs.Lists.{exponents_of}

@@ -1,4 +1,4 @@
-use Rattle.std.proofs.Common.{sym, arith}
+use Rattle.std.proofs.Common.{arith}
 use Rattle.stored.proofs.Rowing.{too_many, refused_row, accepted_row, outcome_ok, outcome_err}
 use Rattle.stored.proofs.rows.check_row.Goals as goal
 

@@ -1,4 +1,4 @@
-use Rattle.std.proofs.Common.{◌≡◌, [], ◌∷◌, ◌++◌, Some, None, Ok, Err, vec_items, sym, refl, ap, ◌∙◌, subst, ap₂, arith}
+use Rattle.std.proofs.Common.{[], ◌∷◌, ◌++◌, vec_items, sym, ap, ◌∙◌, ap₂, arith}
 use Rattle.monomial.specs.Lists.{exponents_of}
 use Rattle.polynomial.specs.Polynomial.{leading}
 use Rattle.stored.specs.Stored.{row_fault}

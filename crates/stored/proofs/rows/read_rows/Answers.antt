@@ -1,4 +1,4 @@
-use Rattle.std.proofs.Common.{◌≡◌, ℕ, ◌+◌, ◌<◌, List, [], length, vec_items, sym, subst, arith, eqb-true}
+use Rattle.std.proofs.Common.{◌≡◌, ◌+◌, ◌<◌, [], length, vec_items, sym, subst, arith, eqb-true}
 use borrow.Author.Tests.{eqb-false}
 use Rattle.stored.specs.Stored.{rows, Reads, ends}
 use Rattle.stored.specs.Rows.{polys}

@@ -1,4 +1,4 @@
-use Rattle.std.proofs.Common.{◌≡◌, ◌++◌, vec_items, string_bytes, sym, ◌∙◌, arith}
+use Rattle.std.proofs.Common.{◌≡◌, ◌++◌, vec_items, string_bytes, arith}
 use Rattle.std.proofs.lemmas.List.{length-map}
 use Rattle.monomial.specs.Lists.{exponents_of}
 use Rattle.stored.specs.Text.{setting_text, rows_text}

@@ -1,4 +1,4 @@
-use Rattle.std.proofs.Common.{◌≡◌, suc, ◌+◌, ◌<◌, ◌≤◌, ◌++◌, length, drop, vec_items, string_bytes, sym, ap, ◌∙◌, ap₂, arith}
+use Rattle.std.proofs.Common.{suc, ◌+◌, ◌<◌, ◌≤◌, ◌++◌, length, drop, vec_items, string_bytes, sym, ap, ◌∙◌, ap₂, arith}
 use Rattle.std.proofs.lemmas.List.{at_drop_all}
 use Rattle.monomial.specs.Lists.{exponents_of}
 use Rattle.stored.specs.Text.{row_text, rows_text}

@@ -1,4 +1,4 @@
-use Rattle.std.proofs.Common.{◌≡◌, ◌++◌, string_bytes, codes, decimal, ◌∙◌, ap₂}
+use Rattle.std.proofs.Common.{◌++◌, string_bytes, codes, decimal, ◌∙◌, ap₂}
 use Rattle.stored.specs.Text.{order_text, division_text}
 use Rattle.stored.proofs.Texts.{three_pieces}
 use Rattle.stored.proofs.show.write_setting.Goals as goal

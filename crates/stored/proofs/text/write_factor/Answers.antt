@@ -1,4 +1,4 @@
-use Rattle.std.proofs.Common.{◌≡◌, ◌++◌, string_bytes, codes, ap, ◌∙◌, arith}
+use Rattle.std.proofs.Common.{◌++◌, string_bytes, codes, ap, ◌∙◌}
 use Rattle.stored.specs.Text.{power_text}
 use Rattle.stored.proofs.Texts.{two_pieces, factor_started}
 use Rattle.stored.proofs.text.write_factor.Goals as goal

@@ -1,4 +1,4 @@
-use Rattle.std.proofs.Common.{◌≡◌, ◌+◌, ◌-◌, ◌<◌, [], ◌++◌, length, get_or, take, drop, string_bytes, codes, sym, ap, ◌∙◌, append_assoc, arith, ltb-false}
+use Rattle.std.proofs.Common.{◌+◌, ◌-◌, ◌<◌, [], ◌++◌, length, get_or, take, drop, string_bytes, codes, sym, ap, ◌∙◌, append_assoc, arith, ltb-false}
 use Rattle.polynomial.specs.Polynomial.{term}
 use Rattle.std.proofs.lemmas.List.{at_drop_all, take_rest}
 use Rattle.stored.specs.Text.{term_text, behind_text}

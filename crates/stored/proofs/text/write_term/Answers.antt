@@ -1,4 +1,4 @@
-use Rattle.std.proofs.Common.{◌≡◌, true, ◌++◌, string_bytes, decimal, sym, ap, ◌∙◌}
+use Rattle.std.proofs.Common.{true, ◌++◌, string_bytes, decimal, sym, ap, ◌∙◌}
 use Rattle.stored.specs.Text.{powers_text}
 use Rattle.stored.proofs.Texts.{two_pieces, term_started}
 use Rattle.stored.proofs.text.write_term.Goals as goal

@@ -1,4 +1,4 @@
-use Rattle.std.proofs.Common.{◌≡◌, ℕ, suc, ◌+◌, ◌-◌, Bool, false, ◌++◌, string_bytes, sym, ap, ◌∙◌, arith}
+use Rattle.std.proofs.Common.{ℕ, suc, ◌+◌, ◌-◌, Bool, false, ◌++◌, string_bytes, sym, ap, ◌∙◌}
 use Rattle.monomial.specs.Lists.{exponents_of}
 use Rattle.stored.specs.Text.{says_yes, variable_text, variables_text}
 use Rattle.stored.proofs.Texts.{piece_more, variables_from, says}

@@ -1,4 +1,4 @@
-use Rattle.std.proofs.Common.{◌≡◌, ℕ, ◌-◌, Bool, false, List, [], get_or, sym, ap, ◌∙◌, arith}
+use Rattle.std.proofs.Common.{◌-◌, Bool, false, List, [], get_or, sym, ap, ◌∙◌, arith}
 use Rattle.sheet.specs.declared.marks.MarkRow.{MarkRow}
 use Rattle.sheet.specs.Marks.{rows_of}
 use Rattle.sheet.proofs.Marking.{marked_in}

@@ -1,8 +1,8 @@
-use Rattle.std.proofs.Common.{◌≡◌, ℕ, length, Ok, Err, vec_items, vec_len, sym, refl, ap, ◌∙◌, subst, rules}
+use Rattle.std.proofs.Common.{◌≡◌, length, Ok, Err, vec_items, sym, refl, ◌∙◌, subst, rules}
 use lib.ListN.{length-map}
 use Rattle.polynomial.specs.Check.{Acceptable}
 use Rattle.involutive.specs.Sheet.{Lawful}
-use Rattle.involutive.specs.Answers.{first_fault, add_faulty, rows_now, Adds}
+use Rattle.involutive.specs.Answers.{add_faulty, rows_now, Adds}
 use Rattle.calls.specs.declared.refusal.Refusal.TheVariants.{Polynomial}
 use Rattle.reduction.specs.Table.{setting, terms_of}
 use Rattle.sheet.specs.Marks.{rows_of, state_of}

@@ -1,12 +1,9 @@
-use Rattle.std.proofs.Common.{◌≡◌, vec_items, sym, refl, subst}
-use Rattle.involutive.specs.Sheet.{Lawful, Closed}
-use Rattle.involutive.specs.Sound.{Sound}
-use Rattle.involutive.specs.Answers.{FairCopies, copy_open}
+use Rattle.std.proofs.Common.{vec_items, refl}
+use Rattle.involutive.specs.Sheet.{Lawful}
+use Rattle.involutive.specs.Answers.{copy_open}
 use Rattle.involutive.specs.Log.{After}
-use Rattle.calls.specs.Told.{copied}
-use Rattle.reduction.specs.declared.table.Row.{Row}
-use Rattle.reduction.specs.Table.{setting, SoundTable}
-use Rattle.sheet.specs.Marks.{rows_of, state_of}
+use Rattle.reduction.specs.Table.{setting}
+use Rattle.sheet.specs.Marks.{rows_of}
 use Rattle.sheet.specs.Whole.{Whole}
 use Rattle.sheet.proofs.Closing.{is_closed, is_open, copied_rows}
 use Rattle.sheet.proofs.six.SheetCalls.fair_copy.Goals as goal

@@ -1,11 +1,10 @@
-use Rattle.std.proofs.Common.{◌≡◌, vec_items, sym, refl, ap, ◌∙◌, subst}
-use Rattle.polynomial.specs.Check.{Acceptable, most_terms}
+use Rattle.std.proofs.Common.{vec_items, sym, refl, subst}
+use Rattle.polynomial.specs.Check.{most_terms}
 use Rattle.involutive.specs.Sheet.{Lawful}
-use Rattle.involutive.specs.Reduction.{left, refused}
+use Rattle.involutive.specs.Reduction.{refused}
 use Rattle.involutive.specs.Answers.{ReducesTo, remainder_open, remainder_faulty, remainder_stuck}
 use Rattle.involutive.specs.Log.{After}
 use Rattle.reduction.specs.Table.{setting}
-use Rattle.reduction.specs.Reducing.{outcome}
 use Rattle.sheet.specs.Marks.{rows_of, state_of}
 use Rattle.sheet.specs.Putting.{Put}
 use Rattle.sheet.specs.Whole.{Whole}

@@ -1,11 +1,10 @@
-use Rattle.std.proofs.Common.{◌≡◌, ℕ, ◌-◌, ◌<◌, ◌≤◌, length, vec_items, vec_len, sym, refl, ap, ◌∙◌, subst, arith, rules}
+use Rattle.std.proofs.Common.{◌≡◌, length, vec_items, vec_len, refl, ◌∙◌, arith, rules}
 use Rattle.monomial.specs.Division.{Within}
 use Rattle.involutive.specs.Sheet.{Lawful}
 use Rattle.involutive.specs.Answers.{row_absent}
 use Rattle.involutive.specs.Log.{After}
 use Rattle.reduction.specs.Table.{setting}
 use Rattle.sheet.specs.Marks.{rows_of, state_of}
-use Rattle.sheet.specs.Whole.{Whole}
 use Rattle.sheet.proofs.Puttings.{put_within, shows_put, row_is, has_row, no_row}
 use Rattle.sheet.proofs.six.SheetCalls.row.Goals as goal
 

@@ -1,8 +1,8 @@
-use Rattle.std.proofs.Common.{◌≡◌, vec_items, sym, refl, ap, ◌∙◌, subst}
+use Rattle.std.proofs.Common.{vec_items, refl}
 use Rattle.involutive.specs.Sheet.{Lawful}
 use Rattle.involutive.specs.Log.{After}
 use Rattle.reduction.specs.Table.{setting}
-use Rattle.sheet.specs.Marks.{rows_of, state_of}
+use Rattle.sheet.specs.Marks.{rows_of}
 use Rattle.involutive.specs.Answers.{step_closed}
 use Rattle.sheet.specs.Whole.{Whole}
 use Rattle.sheet.proofs.Closing.{closed_none, chosen_some}
