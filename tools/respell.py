@@ -22,7 +22,9 @@ PLAIN = {"assoc", "comm", "cancel", "left"}
 WORD = re.compile(r"[A-Za-z0-9_']+\??\Z")
 DECLARED = re.compile(r"^ *(?:abbrev |unfoldable )?(?:pub )?(?:abbrev |unfoldable )?(?:pub )?([^\s:()\[\]{}]+) : (.*)$")
 TYPE = re.compile(r"^ *(?:pub )?(?:record|data) ([^\s:()\[\]{}]+)")
-CONSTRUCTOR = re.compile(r"^ +(?:pub )?([^\s:()\[\]{}]+) :")
+CONSTRUCTORS = re.compile(r"^ +(?:pub )?((?:[^\s:()\[\]{}]+ )+):")
+ALIAS = re.compile(r" as ([a-z0-9]+(?:-[a-z0-9]+)+)")
+LIBRARY = re.compile(r"use (?:Rattle\.(?:std|core)|mathlib|native|Prim|lib|borrow|denote)\.[^{;]*\{([^}]*)\}")
 BREAKS = re.compile(r"([\s(){}\[\],;.\"]+)")
 
 
@@ -54,10 +56,26 @@ def declared_names():
             m = DECLARED.match(line)
             if m and not re.match(r"(goal|need|given)\.", m.group(2)):
                 names.setdefault(m.group(1), set()).add(path)
-            m = TYPE.match(line) or CONSTRUCTOR.match(line)
-            if m:
-                names.setdefault(m.group(1), set()).add(path)
+            m = TYPE.match(line) or CONSTRUCTORS.match(line)
+            for name in m.group(1).split() if m else []:
+                names.setdefault(name, set()).add(path)
+            if " use " in " " + line:
+                for name in ALIAS.findall(line):
+                    names.setdefault(name, set()).add(path)
+    for path in sorted(glob.glob("crates/*/src/**/*.rt", recursive=True)):
+        for line in open(path, encoding="utf-8"):
+            if line.startswith("ghost use "):
+                for name in ALIAS.findall(line):
+                    names.setdefault(name, set()).add(path)
     return names
+
+
+def without_imported(table, text):
+    """The library's names keep their spelling in a file that imports them, though a crate has one of the same name."""
+    imported = set()
+    for names in LIBRARY.findall(text):
+        imported.update(name.split(" as ")[0].strip() for name in names.split(","))
+    return {old: new for old, new in table.items() if old not in imported}
 
 
 def goal_names():
@@ -120,8 +138,10 @@ def main():
     for name in sorted(set(table) & goals):
         print("a goal too:", name)
     met = []
+    whole = table
     for path in antt_files():
         text = open(path, encoding="utf-8").read()
+        table = without_imported(whole, text)
         out = []
         for line in text.split("\n"):
             goal = DECLARED.match(line)
@@ -137,13 +157,13 @@ def main():
             open(path, "w", encoding="utf-8").write(new)
     for path in sorted(glob.glob("crates/*/src/**/*.rt", recursive=True)):
         text = open(path, encoding="utf-8").read()
-        new = turn_rust(text, table, path, met)
+        new = turn_rust(text, without_imported(whole, text), path, met)
         if new != text:
             open(path, "w", encoding="utf-8").write(new)
     if "--fields" in sys.argv:
         for path, use in met:
             print("field:", path, use)
-    print(f"{len(table)} names")
+    print(f"{len(whole)} names")
 
 
 if __name__ == "__main__":

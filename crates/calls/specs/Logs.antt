@@ -2,15 +2,15 @@
 use Rattle.std.specs.Prelude.{List, [], ◌∷◌, ◌++◌}
 use Rattle.polynomial.specs.Polynomial.{Poly}
 use Rattle.involutive.specs.Sheet.{Setting, State}
-use Rattle.involutive.specs.Answers.{Answer, rows_now, closed-answer, marked-answer, appended-answer, written, copied_answer, verdict_answer, denied}
+use Rattle.involutive.specs.Answers.{Answer, rows_now, closed_answer, marked_answer, appended_answer, written, copied_answer, verdict_answer, denied}
 use Rattle.involutive.specs.Log.{Call, After}
 
 -- a granted add accepts its generator, and no other answer accepts one
 abbrev pub accepted : Answer → Poly → List Poly → List Poly
 accepted (rows_now n) f gs = gs ++ (f ∷ [])
-accepted closed-answer f gs = gs
-accepted marked-answer f gs = gs
-accepted appended-answer f gs = gs
+accepted closed_answer f gs = gs
+accepted marked_answer f gs = gs
+accepted appended_answer f gs = gs
 accepted (written n) f gs = gs
 accepted (copied_answer rows bytes) f gs = gs
 accepted (verdict_answer v) f gs = gs

@@ -1,7 +1,7 @@
 -- What the code's answers tell, in the words of the definitions: each refusal has its number and place.
 use Rattle.std.specs.Prelude.{ℕ, Ok, Err, Result}
 use Rattle.involutive.specs.Sheet.{most_rows}
-use Rattle.involutive.specs.Answers.{Answer, rows_now, closed-answer, marked-answer, appended-answer, written, copied_answer, verdict_answer, denied, fault_refusal}
+use Rattle.involutive.specs.Answers.{Answer, rows_now, closed_answer, marked_answer, appended_answer, written, copied_answer, verdict_answer, denied, fault_refusal}
 use Rattle.involutive.specs.Reduction as Reduction
 use Rattle.involutive.specs.Reduction.{refuse}
 use Rattle.calls.specs.declared.refusal.Refusal.{Refusal}
@@ -25,9 +25,9 @@ added (Ok n) = rows_now n
 added (Err r) = denied (told r)
 
 abbrev pub stepped : Result Step Refusal → Answer
-stepped (Ok Closed) = closed-answer
-stepped (Ok Marked) = marked-answer
-stepped (Ok Appended) = appended-answer
+stepped (Ok Closed) = closed_answer
+stepped (Ok Marked) = marked_answer
+stepped (Ok Appended) = appended_answer
 stepped (Err r) = denied (told r)
 
 -- a remainder and a row tell the terms written

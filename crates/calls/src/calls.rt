@@ -12,57 +12,52 @@ use crate::refusal::Refusal;
 use polynomial::term::Term;
 
 // Each call promises, on every value, that the setting stays, that a refused call leaves the state and the lent buffer
-// as they were, and that what was written fits the buffer. On a sound value it promises the answer, the state and the
-// buffer that the definitions give, that the value is sound again, and that the call enters the log.
+// as they were, and that what was written fits the buffer. On a sound state it promises the answer, the state and the
+// buffer that the definitions give, that the state is sound again, and that the call enters the log.
 pub trait Calls {
     // What the sheet is made of, and what it holds.
     ghost setting: { Self → Setting };
 
     ghost state: { Self → State };
 
-    // The state is sound, and what is kept beside it agrees with it. The making grants this, and every call keeps it.
-    ghost sound: { Self → Type 0 };
-
     fn add(&mut self, f: &[Term]) -> Result<usize, Refusal>
         ensures kept { setting self.new ≡ setting self.old }
         ensures refused { OnErr result (state self.new ≡ state self.old) }
-        ensures stays { sound self.old → sound self.new }
-        ensures answer { sound self.old → Adds (setting self.old) (state self.old) f.now (added result) (state self.new) }
-        ensures logged { sound self.old → LoggedAdd (setting self.old) (log_of.add f.now) f.now (added result) (state self.old) (state self.new) };
+        ensures stays { Sound (setting self.old) (state self.old) → Sound (setting self.new) (state self.new) }
+        ensures answer { Sound (setting self.old) (state self.old) → Adds (setting self.old) (state self.old) f.now (added result) (state self.new) }
+        ensures logged { Sound (setting self.old) (state self.old) → LoggedAdd (setting self.old) (log_of.add f.now) f.now (added result) (state self.old) (state self.new) };
 
     fn step(&mut self) -> Result<Step, Refusal>
         ensures kept { setting self.new ≡ setting self.old }
         ensures refused { OnErr result (state self.new ≡ state self.old) }
-        ensures stays { sound self.old → sound self.new }
-        ensures answer { sound self.old → Steps (setting self.old) (state self.old) (stepped result) (state self.new) }
-        ensures logged { sound self.old → Logged (setting self.old) log_of.step (state self.old) (state self.new) };
+        ensures stays { Sound (setting self.old) (state self.old) → Sound (setting self.new) (state self.new) }
+        ensures answer { Sound (setting self.old) (state self.old) → Steps (setting self.old) (state self.old) (stepped result) (state self.new) }
+        ensures logged { Sound (setting self.old) (state self.old) → Logged (setting self.old) log_of.step (state self.old) (state self.new) };
 
     fn remainder(&mut self, f: &[Term], out: &mut [Term]) -> Result<usize, Refusal>
         ensures kept { setting self.new ≡ setting self.old }
         ensures same { state self.new ≡ state self.old }
-        ensures stays { sound self.old → sound self.new }
+        ensures stays { Sound (setting self.old) (state self.old) → Sound (setting self.new) (state self.new) }
         ensures within { MatchResult result (λ n. n ≤ length out.old) (λ _. out.new ≡ out.old) }
-        ensures answer { sound self.old → Remains (setting self.old) (state self.old) f.now out.old (wrote result) out.new }
-        ensures logged { sound self.old → Logged (setting self.old) (log_of.remainder f.now out.old) (state self.old) (state self.new) };
+        ensures answer { Sound (setting self.old) (state self.old) → Remains (setting self.old) (state self.old) f.now out.old (wrote result) out.new }
+        ensures logged { Sound (setting self.old) (state self.old) → Logged (setting self.old) (log_of.remainder f.now out.old) (state self.old) (state self.new) };
 
     fn row(&self, number: usize, out: &mut [Term]) -> Result<usize, Refusal>
         ensures within { MatchResult result (λ n. n ≤ length out.old) (λ _. out.new ≡ out.old) }
-        ensures answer { sound self.now → Shows (setting self.now) (state self.now) number out.old (wrote result) out.new }
-        ensures logged { sound self.now → Logged (setting self.now) (log_of.show_row number out.old) (state self.now) (state self.now) };
+        ensures answer { Sound (setting self.now) (state self.now) → Shows (setting self.now) (state self.now) number out.old (wrote result) out.new }
+        ensures logged { Sound (setting self.now) (state self.now) → Logged (setting self.now) (log_of.show_row number out.old) (state self.now) (state self.now) };
 
     fn fair_copy(&mut self, out: &mut [u8]) -> Result<Copied, Refusal>
         ensures kept { setting self.new ≡ setting self.old }
         ensures same { state self.new ≡ state self.old }
-        ensures stays { sound self.old → sound self.new }
+        ensures stays { Sound (setting self.old) (state self.old) → Sound (setting self.new) (state self.new) }
         ensures within { MatchResult result (λ c. c.bytes ≤ length out.old) (λ _. out.new ≡ out.old) }
-        ensures answer { sound self.old → FairCopies (setting self.old) (state self.old) out.old (copied result) out.new }
-        ensures logged { sound self.old → Logged (setting self.old) (log_of.fair_copy out.old) (state self.old) (state self.new) };
+        ensures answer { Sound (setting self.old) (state self.old) → FairCopies (setting self.old) (state self.old) out.old (copied result) out.new }
+        ensures logged { Sound (setting self.old) (state self.old) → Logged (setting self.old) (log_of.fair_copy out.old) (state self.old) (state self.new) };
 
     fn verdict(&self) -> Result<usize, Refusal>
-        ensures answer { sound self.now → Judges (setting self.now) (state self.now) (judged result) }
-        ensures logged { sound self.now → Logged (setting self.now) log_of.verdict (state self.now) (state self.now) };
+        ensures answer { Sound (setting self.now) (state self.now) → Judges (setting self.now) (state self.now) (judged result) }
+        ensures logged { Sound (setting self.now) (state self.now) → Logged (setting self.now) log_of.verdict (state self.now) (state self.now) };
 
     ghost lawful: { (x : Self) → Lawful (setting x) };
-
-    ghost stands: { (x : Self) → sound x → Sound (setting x) (state x) };
 }

@@ -148,13 +148,13 @@ module _ (S : Setting) (s : State) where
     pub steps : Steps S s answer state
 
   abbrev step_left : (k v : ℕ) → Chosen S s k v → Fits (prolonged S s k v) → (g : Poly) → ReducesTo S s most_terms (prolonged S s k v) (left g) → Option Stepped
-  step_left k v c f [] r = Some (record { answer = Answers.marked-answer; state = with_mark s k v; steps = Answers.step_mark c f r })
-  step_left k v c f (t ∷ g) r = room? >>= λ l. Some (record { answer = Answers.appended-answer; state = with_row S s (t ∷ g); steps = Answers.step_row c f r l })
+  step_left k v c f [] r = Some (record { answer = Answers.marked_answer; state = with_mark s k v; steps = Answers.step_mark c f r })
+  step_left k v c f (t ∷ g) r = room? >>= λ l. Some (record { answer = Answers.appended_answer; state = with_row S s (t ∷ g); steps = Answers.step_row c f r l })
 
   abbrev pub step? : Option Stepped
   step? =
       (choose >>= λ c. fits? (prolonged S s c.0 c.1) >>= λ f. reduce S s.rows most_terms fuel (prolonged S s c.0 c.1) >>= λ r. step_left c.0 c.1 c.2 f r.0 r.1)
-      or λ u. closed? >>= λ c. Some (record { answer = Answers.closed-answer; state = s; steps = Answers.step_closed c })
+      or λ u. closed? >>= λ c. Some (record { answer = Answers.closed_answer; state = s; steps = Answers.step_closed c })
 
   abbrev lead : ℕ → List ℕ
   lead k = leading (row s.rows k)

@@ -9,7 +9,7 @@ use Rattle.polynomial.specs.Check.{Fits, most_terms}
 use Rattle.involutive.specs.Answers
 use Rattle.involutive.specs.Sheet.{Setting, State, most_rows, Closed, Chosen, prolonged, with_row, with_mark, Lawful}
 use Rattle.polynomial.specs.declared.refusal.Refusal.{Refusal as Fault}
-use Rattle.involutive.specs.Answers.{rows_now, closed-answer, marked-answer, appended-answer, written, copied_answer, denied, first_fault, fault_refusal, ReducesTo, Adds, Steps, Remains, Shows, FairCopies, Judges, front, Answer, Selection, Copies, Copied, copies, copy_refused}
+use Rattle.involutive.specs.Answers.{rows_now, closed_answer, marked_answer, appended_answer, written, copied_answer, denied, first_fault, fault_refusal, ReducesTo, Adds, Steps, Remains, Shows, FairCopies, Judges, front, Answer, Selection, Copies, Copied, copies, copy_refused}
 use Rattle.polynomial.specs.Bytes.{copy_bytes}
 use Rattle.involutive.specs.Log.{Call, After, made, added, not_added, stepped, reduced, shown, copied, judged}
 use Rattle.involutive.specs.Once.{OneAnswerEach, OneState}
@@ -141,11 +141,11 @@ module _ (S : Setting) (W : Lawful S) (s : State) (I : Sound S s) where
       λ i. outcome (e.0 i) (e.1 i) (d i)
 
   step_result : Treatment → Answer × State
-  step_result nothing = (closed-answer, s)
+  step_result nothing = (closed_answer, s)
   step_result (too_wide k) = (denied (refuse 9 k), s)
   step_result (outcome k v (refused r)) = (denied r, s)
-  step_result (outcome k v (left [])) = (marked-answer, with_mark s k v)
-  step_result (outcome k v (left (t ∷ g))) = appended appended-answer (t ∷ g)
+  step_result (outcome k v (left [])) = (marked_answer, with_mark s k v)
+  step_result (outcome k v (left (t ∷ g))) = appended appended_answer (t ∷ g)
 
   step_comes : {a : Answer} {s' : State} → Steps S s a s' → Comes Treats step_result (a, s')
   unfolding step_result

@@ -18,7 +18,7 @@ pub data Answer : Type 0 where
   -- add: the number of rows after it
   rows_now : ℕ → Answer
   -- step: the sheet was closed, a pair was marked, or a row was appended
-  closed-answer marked-answer appended-answer : Answer
+  closed_answer marked_answer appended_answer : Answer
   -- remainder and row: the number of terms written
   written : ℕ → Answer
   -- fair copy: the numbers of rows and of bytes written
@@ -58,12 +58,12 @@ module _ (S : Setting) (s : State) where
 
   -- step: the answer, and the state after it
   pub data Steps : Answer → State → Type 0 where
-    step_closed : Closed S s → Steps closed-answer s
+    step_closed : Closed S s → Steps closed_answer s
     step_wide : {k v : ℕ} → Chosen S s k v → (Fits (prolonged S s k v) → ⊥) → Steps (denied (refuse 9 k)) s
     step_stuck : {k v : ℕ} {r : Refusal} → Chosen S s k v → Fits (prolonged S s k v) → ReducesTo most_terms (prolonged S s k v) (refused r) → Steps (denied r) s
-    step_mark : {k v : ℕ} → Chosen S s k v → Fits (prolonged S s k v) → ReducesTo most_terms (prolonged S s k v) (left []) → Steps marked-answer (with_mark s k v)
+    step_mark : {k v : ℕ} → Chosen S s k v → Fits (prolonged S s k v) → ReducesTo most_terms (prolonged S s k v) (left []) → Steps marked_answer (with_mark s k v)
     step_full : {k v : ℕ} {t : Term} {g : Poly} → Chosen S s k v → Fits (prolonged S s k v) → ReducesTo most_terms (prolonged S s k v) (left (t ∷ g)) → length s.rows ≡ most_rows → Steps (denied (refuse 11 most_rows)) s
-    step_row : {k v : ℕ} {t : Term} {g : Poly} → Chosen S s k v → Fits (prolonged S s k v) → ReducesTo most_terms (prolonged S s k v) (left (t ∷ g)) → length s.rows < most_rows → Steps appended-answer (with_row S s (t ∷ g))
+    step_row : {k v : ℕ} {t : Term} {g : Poly} → Chosen S s k v → Fits (prolonged S s k v) → ReducesTo most_terms (prolonged S s k v) (left (t ∷ g)) → length s.rows < most_rows → Steps appended_answer (with_row S s (t ∷ g))
 
   -- remainder of f into the lent terms: the answer, and the terms after it
   pub data Remains (f out : Poly) : Answer → Poly → Type 0 where

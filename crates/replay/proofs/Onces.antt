@@ -4,7 +4,7 @@ use lib.Seq.{take-append_seam, drop-append_seam}
 use Rattle.polynomial.specs.Polynomial.{Poly}
 use Rattle.involutive.specs.Reduction.{Refusal}
 use Rattle.involutive.specs.Sheet.{Setting, Lawful, State}
-use Rattle.involutive.specs.Answers.{Answer, rows_now, closed-answer, marked-answer, appended-answer, written, copied_answer, verdict_answer, denied, Steps}
+use Rattle.involutive.specs.Answers.{Answer, rows_now, closed_answer, marked_answer, appended_answer, written, copied_answer, verdict_answer, denied, Steps}
 use Rattle.involutive.specs.Log.{Call, After}
 use Rattle.involutive.specs.Sound.{Sound}
 use Rattle.involutive.proofs.OneAnswer.{one_answer}
@@ -58,9 +58,9 @@ joined p q = ap₂ (λ a b. a ++ b) p q
 -- ---- a step's answers, told apart by a number
 
 abbrev kind : Answer → ℕ
-kind closed-answer = 0
-kind marked-answer = 1
-kind appended-answer = 2
+kind closed_answer = 0
+kind marked_answer = 1
+kind appended_answer = 2
 kind (denied r) = 3
 kind (rows_now n) = 4
 kind (written n) = 4
@@ -69,9 +69,9 @@ kind (verdict_answer v) = 4
 
 abbrev denial : Answer → Option Refusal
 denial (denied r) = Some r
-denial closed-answer = None
-denial marked-answer = None
-denial appended-answer = None
+denial closed_answer = None
+denial marked_answer = None
+denial appended_answer = None
 denial (rows_now n) = None
 denial (written n) = None
 denial (copied_answer m n) = None

@@ -7,9 +7,11 @@ use Rattle.replay.specs.declared.command.Fault.TheVariants.{Short, Unknown}
 use Rattle.replay.specs.Words.{operand_bytes}
 use Rattle.replay.specs.Grammar.{byte_of, operands_of, Reads}
 use Rattle.polynomial.specs.Polynomial.{Poly}
-use Rattle.involutive.specs.Sheet.{Setting, State}
+use Rattle.involutive.specs.Sheet.{Setting, Lawful, State}
 use Rattle.involutive.specs.Log.{Call, After}
+use Rattle.involutive.specs.Sound.{Sound}
 use Rattle.replay.specs.Replay.{Acts, Appends, Runs, ends, goes_on, CommandAt, Faulty, unknown, short}
+use Rattle.involutive.proofs.Soundness.{sound}
 use Rattle.replay.proofs.Acting.{after_does}
 
 pub record Reached (S : Setting) (s₀ : State) (log₀ : List Call) (at₀ : ℕ) (bs₀ before after : List ℕ) (s : State) (g : Poly) (at : ℕ) (bs : List ℕ) : Type 0 where
@@ -34,9 +36,9 @@ module _ {S : Setting} {s₀ : State} {log₀ : List Call} {at₀ : ℕ} {bs₀ 
     is_so = (w.log, w.accepted, w.onward s w.log t (r w.log), w.stands);
   }
 
-  pub reached_act : {new ops rest : List ℕ} {b at' : ℕ} {s' : State} {g' : Poly} → CommandAt bs b ops rest → at' ≡ at + (operand_bytes b + 1) → Acts S s g at b ops s' g' after new → Reached S s₀ log₀ at₀ bs₀ before after s g at bs → Reached S s₀ log₀ at₀ bs₀ before new s' g' at' rest
-  reached_act {rest = rest} {s' = s'} {g' = g'} k e f w =
-      let a = f w.log in
+  pub reached_act : {new ops rest : List ℕ} {b at' : ℕ} {s' : State} {g' : Poly} → Lawful S → CommandAt bs b ops rest → at' ≡ at + (operand_bytes b + 1) → (Sound S s → Acts S s g at b ops s' g' after new) → Reached S s₀ log₀ at₀ bs₀ before after s g at bs → Reached S s₀ log₀ at₀ bs₀ before new s' g' at' rest
+  reached_act {rest = rest} {s' = s'} {g' = g'} W k e f w =
+      let a = f (sound S W w.stands) w.log in
       let d = after_does w.stands a.is_so.1 in
       record {
         text = w.text ++ a.text;
@@ -106,8 +108,8 @@ long {ops = ops} {rest = rest} k = let e = length-append ops rest in let l = ap 
 pub runs_none : {S : Setting} {s : State} {g : Poly} {at : ℕ} {bs : List ℕ} → bs ≡ [] → (log : List Call) → Runs S s log g at bs s log []
 runs_none {S = S} {s = s} {g = g} {at = at} e log = subst (λ bs. Runs S s log g at bs s log []) (sym e) ends
 
-pub acts_under : {S S' : Setting} {s s' : State} {g g' : Poly} {at b : ℕ} {ops before after : List ℕ} → S' ≡ S → Acts S' s g at b ops s' g' before after → Acts S s g at b ops s' g' before after
-acts_under {s = s} {s' = s'} {g = g} {g' = g'} {at = at} {b = b} {ops = ops} {before = before} {after = after} e f = subst (λ S. Acts S s g at b ops s' g' before after) e f
+pub acts_under : {S S' : Setting} {s s' : State} {g g' : Poly} {at b : ℕ} {ops before after : List ℕ} → S' ≡ S → (Sound S' s → Acts S' s g at b ops s' g' before after) → Sound S s → Acts S s g at b ops s' g' before after
+acts_under {s = s} {s' = s'} {g = g} {g' = g'} {at = at} {b = b} {ops = ops} {before = before} {after = after} e f = subst (λ S. Sound S s → Acts S s g at b ops s' g' before after) e f
 
 pub not_sheet : (c : Command) → ((o : Bor (List ℕ)) → c ≡ Sheet o → ⊥) → 0 < byte_of c
 not_sheet (Sheet o) f = absurd (f o refl)

@@ -1,11 +1,12 @@
 -- A turn of repeated steps.
-use Rattle.std.proofs.Common.{◌≡◌, ℕ, zero, suc, ◌+◌, ◌-◌, ◌<◌, ◌≤◌, List, ◌∷◌, Some, None, Ok, Option, subst, arith}
+use Rattle.std.proofs.Common.{◌≡◌, ℕ, zero, suc, ◌+◌, ◌-◌, ◌<◌, ◌≤◌, List, ◌∷◌, Some, None, Ok, Option, sym, subst, arith}
 use Rattle.involutive.specs.Reduction.{Refusal}
 use Rattle.involutive.specs.Sheet.{Setting, State}
-use Rattle.involutive.specs.Answers.{Answer, closed-answer, marked-answer, appended-answer, denied, Steps}
+use Rattle.involutive.specs.Answers.{Answer, closed_answer, marked_answer, appended_answer, denied, Steps}
 use Rattle.calls.specs.declared.answer.Step.{Step}
 use Rattle.calls.specs.Told.{stepped}
 use Rattle.involutive.specs.Log.{Call, step}
+use Rattle.involutive.specs.Sound.{Sound}
 use Rattle.replay.specs.Replay.{Stepping, used_up, on_closed, on_denial, marks, appends}
 
 -- whatever the steps left come to, all of them come to
@@ -19,15 +20,15 @@ pub record Stood (S : Setting) (s₀ : State) (log₀ : List Call) (count grante
   pub onward : Onward S s₀ log₀ count granted s log left
 
 module _ {S : Setting} {s₀ : State} {log₀ : List Call} {count granted : ℕ} where
-  pub stood_mark : {s s' : State} (left : ℕ) → 0 < left → Stood S s₀ log₀ count granted s left → Steps S s marked-answer s' → Stood S s₀ log₀ count (granted + 1) s' (left - 1)
+  pub stood_mark : {s s' : State} (left : ℕ) → 0 < left → Stood S s₀ log₀ count granted s left → Steps S s marked_answer s' → Stood S s₀ log₀ count (granted + 1) s' (left - 1)
   stood_mark zero p w st = absurd (omega arith)
   stood_mark {s' = s'} (suc n) p w st = record { log = step ∷ w.log; onward = λ k e s'' log'' r. subst (λ x. Stepping S s₀ log₀ count x e s'' log'') (omega arith) (w.onward (suc k) e s'' log'' (marks st (subst (λ m. Stepping S s' (step ∷ w.log) m k e s'' log'') (omega arith) r))) }
 
-  pub stood_append : {s s' : State} (left : ℕ) → 0 < left → Stood S s₀ log₀ count granted s left → Steps S s appended-answer s' → Stood S s₀ log₀ count (granted + 1) s' (left - 1)
+  pub stood_append : {s s' : State} (left : ℕ) → 0 < left → Stood S s₀ log₀ count granted s left → Steps S s appended_answer s' → Stood S s₀ log₀ count (granted + 1) s' (left - 1)
   stood_append zero p w st = absurd (omega arith)
   stood_append {s' = s'} (suc n) p w st = record { log = step ∷ w.log; onward = λ k e s'' log'' r. subst (λ x. Stepping S s₀ log₀ count x e s'' log'') (omega arith) (w.onward (suc k) e s'' log'' (appends st (subst (λ m. Stepping S s' (step ∷ w.log) m k e s'' log'') (omega arith) r))) }
 
-  pub stood_closed : {s s' : State} (left : ℕ) → 0 < left → Stood S s₀ log₀ count granted s left → Steps S s closed-answer s' → (log' : List Call) × Stepping S s₀ log₀ count granted None s' log'
+  pub stood_closed : {s s' : State} (left : ℕ) → 0 < left → Stood S s₀ log₀ count granted s left → Steps S s closed_answer s' → (log' : List Call) × Stepping S s₀ log₀ count granted None s' log'
   stood_closed zero p w st = absurd (omega arith)
   stood_closed {s' = s'} (suc n) p w st = (step ∷ w.log, subst (λ x. Stepping S s₀ log₀ count x None s' (step ∷ w.log)) (omega arith) (w.onward 0 None s' (step ∷ w.log) (on_closed st)))
 
@@ -43,8 +44,8 @@ pub stood_first : {S : Setting} {s : State} {log : List Call} {n : ℕ} → Stoo
 stood_first {S = S} {s = s} {log = log} {n = n} = record { log = log; onward = λ k e s' log' r. subst (λ x. Stepping S s log n x e s' log') (omega arith) r }
 
 -- a step's answer under a setting that is the same
-pub said : {S S' : Setting} {s s' : State} {a : Answer} → S' ≡ S → Steps S' s a s' → Steps S s a s'
-said {s = s} {s' = s'} {a = a} e st = subst (λ S. Steps S s a s') e st
+pub said : {S S' : Setting} {s s' : State} {a : Answer} → S' ≡ S → Sound S s → (Sound S' s → Steps S' s a s') → Steps S s a s'
+said {s = s} {s' = s'} {a = a} e w f = subst (λ S. Steps S s a s') e (f (subst (λ S. Sound S s) (sym e) w))
 
 pub known : {S : Setting} {s s' : State} {a b : Step} → a ≡ b → Steps S s (stepped (Ok a)) s' → Steps S s (stepped (Ok b)) s'
 known {S = S} {s = s} {s' = s'} e st = subst (λ a. Steps S s (stepped (Ok a)) s') e st

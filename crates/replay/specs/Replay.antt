@@ -9,7 +9,7 @@ use Rattle.polynomial.specs.Polynomial.{Poly}
 use Rattle.polynomial.specs.Check.{most_terms}
 use Rattle.involutive.specs.Reduction.{Refusal}
 use Rattle.involutive.specs.Sheet.{Setting, State, empty}
-use Rattle.involutive.specs.Answers.{Answer, closed-answer, marked-answer, appended-answer, denied, Adds, Steps, Remains, Shows, FairCopies, Judges}
+use Rattle.involutive.specs.Answers.{Answer, closed_answer, marked_answer, appended_answer, denied, Adds, Steps, Remains, Shows, FairCopies, Judges}
 use Rattle.involutive.specs.Log.{Call, add, step, remainder, show_row, fair_copy, verdict, After}
 use Rattle.lines.specs.Line.{line}
 use Rattle.replay.specs.Words.{operand_bytes, word, term_of, gather, answered, shown, copied, stepped, refused_line}
@@ -18,10 +18,10 @@ use Rattle.replay.specs.Words.{operand_bytes, word, term_of, gather, answered, s
 -- ends with the denial e, if any, and leaves s' and the log with each of its steps
 pub data Stepping (S : Setting) : State → List Call → ℕ → ℕ → Option Refusal → State → List Call → Type 0 where
   used_up : {s : State} {log : List Call} → Stepping S s log 0 0 None s log
-  on_closed : {s s' : State} {log : List Call} {n : ℕ} → Steps S s closed-answer s' → Stepping S s log (suc n) 0 None s' (step ∷ log)
+  on_closed : {s s' : State} {log : List Call} {n : ℕ} → Steps S s closed_answer s' → Stepping S s log (suc n) 0 None s' (step ∷ log)
   on_denial : {s s' : State} {log : List Call} {n : ℕ} {r : Refusal} → Steps S s (denied r) s' → Stepping S s log (suc n) 0 (Some r) s' (step ∷ log)
-  marks : {s s' s'' : State} {log log'' : List Call} {n k : ℕ} {e : Option Refusal} → Steps S s marked-answer s' → Stepping S s' (step ∷ log) n k e s'' log'' → Stepping S s log (suc n) (suc k) e s'' log''
-  appends : {s s' s'' : State} {log log'' : List Call} {n k : ℕ} {e : Option Refusal} → Steps S s appended-answer s' → Stepping S s' (step ∷ log) n k e s'' log'' → Stepping S s log (suc n) (suc k) e s'' log''
+  marks : {s s' s'' : State} {log log'' : List Call} {n k : ℕ} {e : Option Refusal} → Steps S s marked_answer s' → Stepping S s' (step ∷ log) n k e s'' log'' → Stepping S s log (suc n) (suc k) e s'' log''
+  appends : {s s' s'' : State} {log log'' : List Call} {n k : ℕ} {e : Option Refusal} → Steps S s appended_answer s' → Stepping S s' (step ∷ log) n k e s'' log'' → Stepping S s log (suc n) (suc k) e s'' log''
 
 -- room for 32 rows of 40 terms of 9 bytes and a closing byte each
 abbrev pub most_bytes : ℕ

@@ -4,7 +4,7 @@ use Rattle.polynomial.specs.declared.term.Term.{Term}
 use Rattle.polynomial.specs.Polynomial.{Poly, term}
 use Rattle.polynomial.specs.Bytes.{poly_bytes}
 use Rattle.involutive.specs.Reduction.{Refusal}
-use Rattle.involutive.specs.Answers.{Answer, rows_now, closed-answer, marked-answer, appended-answer, written, copied_answer, verdict_answer, denied}
+use Rattle.involutive.specs.Answers.{Answer, rows_now, closed_answer, marked_answer, appended_answer, written, copied_answer, verdict_answer, denied}
 use Rattle.lines.specs.Line.{line, bytes_field, count_field}
 
 -- how many bytes of operands follow the byte of a command
@@ -26,9 +26,9 @@ gather g t = cond (nat_lt (length g) 41) (g ++ (t ∷ [])) g
 -- the number and the value of a line
 abbrev pub number_of : Answer → ℕ
 number_of (rows_now n) = 0
-number_of closed-answer = 0
-number_of marked-answer = 0
-number_of appended-answer = 0
+number_of closed_answer = 0
+number_of marked_answer = 0
+number_of appended_answer = 0
 number_of (written n) = 0
 number_of (copied_answer rows bytes) = 0
 number_of (verdict_answer v) = 0
@@ -36,9 +36,9 @@ number_of (denied r) = r.number
 
 abbrev pub value_of : Answer → ℕ
 value_of (rows_now n) = n
-value_of closed-answer = 0
-value_of marked-answer = 0
-value_of appended-answer = 0
+value_of closed_answer = 0
+value_of marked_answer = 0
+value_of appended_answer = 0
 value_of (written n) = n
 value_of (copied_answer rows bytes) = rows
 value_of (verdict_answer v) = v
@@ -47,9 +47,9 @@ value_of (denied r) = r.place
 -- what was written to the front of the lent terms, or of the lent bytes
 abbrev pub terms_written : Answer → Poly → List ℕ
 terms_written (rows_now n) out = []
-terms_written closed-answer out = []
-terms_written marked-answer out = []
-terms_written appended-answer out = []
+terms_written closed_answer out = []
+terms_written marked_answer out = []
+terms_written appended_answer out = []
 terms_written (written n) out = poly_bytes (take n out)
 terms_written (copied_answer rows bytes) out = []
 terms_written (verdict_answer v) out = []
@@ -57,9 +57,9 @@ terms_written (denied r) out = []
 
 abbrev pub bytes_written : Answer → List ℕ → List ℕ
 bytes_written (rows_now n) out = []
-bytes_written closed-answer out = []
-bytes_written marked-answer out = []
-bytes_written appended-answer out = []
+bytes_written closed_answer out = []
+bytes_written marked_answer out = []
+bytes_written appended_answer out = []
 bytes_written (written n) out = []
 bytes_written (copied_answer rows bytes) out = take bytes out
 bytes_written (verdict_answer v) out = []

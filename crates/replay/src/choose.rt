@@ -56,7 +56,7 @@ fn run<C: Calls>(
     out: &mut Vec<u8>,
 ) -> Result<(), AllocError>
     requires { 7 ≤ length input.now }
-    ensures { OnOk result (C.Calls.sound sheet.old → C.Calls.state sheet.old ≡ empty → Appends out.old.items out.new.items (Starts (drop 7 input.now) (granted (C.Calls.setting sheet.old)))) }
+    ensures { OnOk result (C.Calls.state sheet.old ≡ empty → Appends out.old.items out.new.items (Starts (drop 7 input.now) (granted (C.Calls.setting sheet.old)))) }
 {
     let zero = Term {
         coefficient: 0,

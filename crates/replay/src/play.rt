@@ -1,8 +1,9 @@
 // The commands after the making, carried out one after the other.
-ghost use Rattle.std.specs.Prelude.{◌≡◌, ◌<◌, ◌≤◌, List, [], length, drop, OnOk};
+ghost use Rattle.std.specs.Prelude.{◌≡◌, ℕ, ◌<◌, ◌≤◌, List, [], length, drop, OnOk};
 ghost use Rattle.std.specs.Option.{option_map};
 ghost use Rattle.polynomial.specs.Polynomial.{Poly};
 ghost use Rattle.involutive.specs.Log.{Call};
+ghost use Rattle.involutive.specs.Sound.{Sound};
 ghost use Rattle.calls.specs.Told.{told};
 ghost use Rattle.replay.specs.Words.{gather, term_of, operand_bytes};
 ghost use Rattle.replay.specs.Grammar.{byte_of, operands_of};
@@ -46,8 +47,7 @@ fn do_add<C: Calls>(
     out: &mut Vec<u8>,
 ) -> Result<(), AllocError>
     ensures kept { C.Calls.setting sheet.new ≡ C.Calls.setting sheet.old }
-    ensures stays { C.Calls.sound sheet.old → C.Calls.sound sheet.new }
-    ensures acts { OnOk result (C.Calls.sound sheet.old → Acts (C.Calls.setting sheet.old) (C.Calls.state sheet.old) gathered.old.items at 2 [] (C.Calls.state sheet.new) gathered.new.items out.old.items out.new.items) }
+    ensures acts { OnOk result (Sound (C.Calls.setting sheet.old) (C.Calls.state sheet.old) → Acts (C.Calls.setting sheet.old) (C.Calls.state sheet.old) gathered.old.items at 2 [] (C.Calls.state sheet.new) gathered.new.items out.old.items out.new.items) }
 {
     let answer = sheet.add(gathered.as_slice());
     gathered.clear();
@@ -56,8 +56,7 @@ fn do_add<C: Calls>(
 
 fn repeat_step<C: Calls>(sheet: &mut C, count: u16) -> Stepped
     ensures kept { C.Calls.setting sheet.new ≡ C.Calls.setting sheet.old }
-    ensures stays { C.Calls.sound sheet.old → C.Calls.sound sheet.new }
-    ensures steps { C.Calls.sound sheet.old → (log : List Call) → (log' : List Call) × Stepping (C.Calls.setting sheet.old) (C.Calls.state sheet.old) log count result.granted (option_map told result.denial) (C.Calls.state sheet.new) log' }
+    ensures steps { Sound (C.Calls.setting sheet.old) (C.Calls.state sheet.old) → (log : List Call) → (log' : List Call) × Stepping (C.Calls.setting sheet.old) (C.Calls.state sheet.old) log count result.granted (option_map told result.denial) (C.Calls.state sheet.new) log' }
 {
     let mut granted: usize = 0;
     let mut left = count;
@@ -93,8 +92,7 @@ fn do_steps<C: Calls>(
 ) -> Result<(), AllocError>
     requires { length ops.now ≡ 2 }
     ensures kept { C.Calls.setting sheet.new ≡ C.Calls.setting sheet.old }
-    ensures stays { C.Calls.sound sheet.old → C.Calls.sound sheet.new }
-    ensures acts { OnOk result ((g : Poly) → C.Calls.sound sheet.old → Acts (C.Calls.setting sheet.old) (C.Calls.state sheet.old) g at 3 ops.now (C.Calls.state sheet.new) g out.old.items out.new.items) }
+    ensures acts { OnOk result ((g : Poly) → Sound (C.Calls.setting sheet.old) (C.Calls.state sheet.old) → Acts (C.Calls.setting sheet.old) (C.Calls.state sheet.old) g at 3 ops.now (C.Calls.state sheet.new) g out.old.items out.new.items) }
 {
     let steps = repeat_step(sheet, u16::from_be_bytes([ops[0], ops[1]]));
     write_steps(heap, out, at, steps)
@@ -110,8 +108,7 @@ fn do_remainder<C: Calls>(
 ) -> Result<(), AllocError>
     requires { 40 ≤ length terms.old }
     ensures kept { C.Calls.setting sheet.new ≡ C.Calls.setting sheet.old }
-    ensures stays { C.Calls.sound sheet.old → C.Calls.sound sheet.new }
-    ensures acts { OnOk result (C.Calls.sound sheet.old → Acts (C.Calls.setting sheet.old) (C.Calls.state sheet.old) gathered.old.items at 4 [] (C.Calls.state sheet.new) gathered.new.items out.old.items out.new.items) }
+    ensures acts { OnOk result (Sound (C.Calls.setting sheet.old) (C.Calls.state sheet.old) → Acts (C.Calls.setting sheet.old) (C.Calls.state sheet.old) gathered.old.items at 4 [] (C.Calls.state sheet.new) gathered.new.items out.old.items out.new.items) }
 {
     let answer = sheet.remainder(gathered.as_slice(), terms);
     gathered.clear();
@@ -127,7 +124,7 @@ fn do_row<C: Calls>(
     out: &mut Vec<u8>,
 ) -> Result<(), AllocError>
     requires { (40 ≤ length terms.old) × (length ops.now ≡ 1) }
-    ensures acts { OnOk result ((g : Poly) → C.Calls.sound sheet.now → Acts (C.Calls.setting sheet.now) (C.Calls.state sheet.now) g at 5 ops.now (C.Calls.state sheet.now) g out.old.items out.new.items) }
+    ensures acts { OnOk result ((g : Poly) → Sound (C.Calls.setting sheet.now) (C.Calls.state sheet.now) → Acts (C.Calls.setting sheet.now) (C.Calls.state sheet.now) g at 5 ops.now (C.Calls.state sheet.now) g out.old.items out.new.items) }
 {
     let answer = sheet.row(ops[0] as usize, terms);
     write_shown(heap, out, at, 5, answer, terms)
@@ -142,8 +139,7 @@ fn do_fair_copy<C: Calls>(
 ) -> Result<(), AllocError>
     requires { 11552 ≤ length bytes.old }
     ensures kept { C.Calls.setting sheet.new ≡ C.Calls.setting sheet.old }
-    ensures stays { C.Calls.sound sheet.old → C.Calls.sound sheet.new }
-    ensures acts { OnOk result ((g : Poly) → C.Calls.sound sheet.old → Acts (C.Calls.setting sheet.old) (C.Calls.state sheet.old) g at 6 [] (C.Calls.state sheet.new) g out.old.items out.new.items) }
+    ensures acts { OnOk result ((g : Poly) → Sound (C.Calls.setting sheet.old) (C.Calls.state sheet.old) → Acts (C.Calls.setting sheet.old) (C.Calls.state sheet.old) g at 6 [] (C.Calls.state sheet.new) g out.old.items out.new.items) }
 {
     let answer = sheet.fair_copy(bytes);
     write_copied(heap, out, at, answer, bytes)
@@ -155,7 +151,7 @@ fn do_verdict<C: Calls>(
     at: usize,
     out: &mut Vec<u8>,
 ) -> Result<(), AllocError>
-    ensures acts { OnOk result ((g : Poly) → C.Calls.sound sheet.now → Acts (C.Calls.setting sheet.now) (C.Calls.state sheet.now) g at 7 [] (C.Calls.state sheet.now) g out.old.items out.new.items) }
+    ensures acts { OnOk result ((g : Poly) → Sound (C.Calls.setting sheet.now) (C.Calls.state sheet.now) → Acts (C.Calls.setting sheet.now) (C.Calls.state sheet.now) g at 7 [] (C.Calls.state sheet.now) g out.old.items out.new.items) }
 {
     let answer = sheet.verdict();
     write_judged(heap, out, at, answer)
@@ -173,8 +169,7 @@ fn act<C: Calls>(
 ) -> Result<(), AllocError>
     requires { (40 ≤ length terms.old) × ((11552 ≤ length bytes.old) × (length (operands_of command) ≡ operand_bytes (byte_of command))) }
     ensures kept { C.Calls.setting sheet.new ≡ C.Calls.setting sheet.old }
-    ensures stays { C.Calls.sound sheet.old → C.Calls.sound sheet.new }
-    ensures acts { OnOk result (0 < byte_of command.entry → C.Calls.sound sheet.old → Acts (C.Calls.setting sheet.old) (C.Calls.state sheet.old) gathered.old.items at (byte_of command.entry) (operands_of command.entry) (C.Calls.state sheet.new) gathered.new.items out.old.items out.new.items) }
+    ensures acts { OnOk result (0 < byte_of command.entry → Sound (C.Calls.setting sheet.old) (C.Calls.state sheet.old) → Acts (C.Calls.setting sheet.old) (C.Calls.state sheet.old) gathered.old.items at (byte_of command.entry) (operands_of command.entry) (C.Calls.state sheet.new) gathered.new.items out.old.items out.new.items) }
 {
     match command {
         Command::Sheet(_) => Ok(()),
@@ -198,7 +193,7 @@ pub(crate) fn play<C: Calls>(
     out: &mut Vec<u8>,
 ) -> Result<(), AllocError>
     requires { (40 ≤ length terms.old) × ((11552 ≤ length bytes.old) × (7 ≤ length input.now)) }
-    ensures { OnOk result (C.Calls.sound sheet.old → Ran (C.Calls.setting sheet.old) (C.Calls.state sheet.old) [] 7 (drop 7 input.now) (C.Calls.state sheet.new) out.old.items out.new.items) }
+    ensures { OnOk result (Ran (C.Calls.setting sheet.old) (C.Calls.state sheet.old) [] 7 (drop 7 input.now) (C.Calls.state sheet.new) out.old.items out.new.items) }
 {
     let mut gathered: Vec<Term> = Vec::new(heap);
     let mut at: usize = 7;

@@ -5,17 +5,21 @@ use Rattle.involutive.specs.Log.{After, made}
 use Rattle.involutive.specs.Sound.{Sound}
 use Rattle.involutive.proofs.Soundness
 use Rattle.reduction.specs.declared.table.Row.{Row}
+use Rattle.reduction.specs.Table.{SoundTable}
 use Rattle.sheet.specs.Making.{Begins}
 use Rattle.sheet.specs.Marks.{marked, state_of}
-use Rattle.sheet.specs.Whole.{Whole}
 
-pub begins : (S : Setting) → Lawful S → (rows : List Row) (xs : List (List Bool)) → rows ≡ [] → ((k v : ℕ) → marked xs k v ≡ false) → Begins S S (state_of rows xs) (Whole S rows xs)
+-- a table without rows agrees with what is kept beside them
+pub begins_table : (S : Setting) (rows : List Row) → rows ≡ [] → SoundTable S rows
+begins_table S rows e = subst (SoundTable S) (sym e) (λ i r h d. absurd (omega (arith, h)))
+
+pub begins : (S : Setting) → Lawful S → (rows : List Row) (xs : List (List Bool)) → rows ≡ [] → ((k v : ℕ) → marked xs k v ≡ false) → Begins S S (state_of rows xs)
 begins S W rows xs e m = record {
   within = W.variables;
   setting = refl;
   state = state;
   logged = subst (λ s. After S [] s []) (sym state) made;
-  sound = subst (λ r. Whole S r xs) (sym e) (record { table = λ i r h d. absurd (omega (arith, h)); state = subst (Sound S) (sym new) (Soundness.sound_empty S W) });
+  sound = subst (Sound S) (sym state) (Soundness.sound_empty S W);
 }
   where
     new : state_of [] xs ≡ empty

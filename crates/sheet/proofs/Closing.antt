@@ -19,7 +19,7 @@ use Rattle.sheet.specs.Choosing.{chosen}
 use Rattle.sheet.specs.Marks.{marked, state_of}
 use Rattle.sheet.specs.Rows.{lead_of}
 use Rattle.sheet.specs.Units.{has_unit}
-use Rattle.sheet.specs.Whole.{Whole}
+use Rattle.sheet.proofs.Whole.{Whole}
 use Rattle.sheet.proofs.Choosings.{found_closed, found_chosen}
 use Rattle.sheet.proofs.Mapping.{map_at, element}
 
@@ -55,6 +55,10 @@ at_unit [] i r h e l = absurd (omega (arith, h))
 at_unit (x ∷ rows) zero r h e l = ap (λ b. b || has_unit rows) (ap (λ y. same (lead_of y) one) (sym e) ∙ ap (λ m. same m one) l ∙ same_refl one)
 at_unit (x ∷ rows) (suc i) r h e l = or_right (same (lead_of x) one) (has_unit rows) (at_unit rows i r (omega (arith, h)) e l)
 
+-- what the search for a pair finds needs only that the table agrees
+pub chosen_some : (S : Setting) (W : Lawful S) (rows : List Row) (xs : List (List Bool)) → SoundTable S rows → {slice : List Row} (p : Pick) → slice ≡ rows → Some p ≡ chosen S.order S.variables xs slice 1 None → Chosen S (state_of rows xs) p.row p.variable
+chosen_some S W rows xs T p e f = found_chosen S W.order W.variables.1 rows xs T p (sym (f ∙ ap (λ slice. chosen S.order S.variables xs slice 1 None) e))
+
 module _ (S : Setting) (W : Lawful S) (rows : List Row) (xs : List (List Bool)) (I : Whole S rows xs) where
   abbrev s : State
   s = state_of rows xs
@@ -65,16 +69,13 @@ module _ (S : Setting) (W : Lawful S) (rows : List Row) (xs : List (List Bool)) 
   pub closed_none : {slice : List Row} → slice ≡ rows → None ≡ found slice → Closed S s
   closed_none e f = found_closed S W.order W.variables.1 rows xs I.table (sym (f ∙ ap found e))
 
-  pub chosen_some : {slice : List Row} (p : Pick) → slice ≡ rows → Some p ≡ found slice → Chosen S s p.row p.variable
-  chosen_some p e f = found_chosen S W.order W.variables.1 rows xs I.table p (sym (f ∙ ap found e))
-
   pub is_closed : {slice : List Row} → slice ≡ rows → true ≡ not (is_some (found slice)) → Closed S s
   is_closed {slice} e f = closed_none e (sym (none (found slice) f))
 
   pub is_open : {slice : List Row} → slice ≡ rows → false ≡ not (is_some (found slice)) → Closed S s → ⊥
   is_open {slice} e f c =
       let x = some (found slice) f in
-      let C = chosen_some x.0 e (sym x.1) in
+      let C = chosen_some S W rows xs I.table x.0 e (sym x.1) in
       both_ways (marked xs x.0.row x.0.variable) C.unmarked (c x.0.row x.0.variable C.pair)
 
   -- ---- the verdict

@@ -15,3 +15,4 @@ mod Settlings
 mod Smallest
 mod Standing
 mod Treating
+pub mod Whole

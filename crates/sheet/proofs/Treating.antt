@@ -1,25 +1,29 @@
 -- What a step answers, from what became of the prolongation of its pair.
-use Rattle.std.proofs.Common.{◌≡◌, ℕ, ◌≤◌, Bool, ◌&&◌, ◌||◌, eqb, List, Ok, Err, MatchBool, Result, sym, subst}
+use Rattle.std.proofs.Common.{◌≡◌, ℕ, ◌-◌, ◌<◌, ◌≤◌, arith, [], length, Bool, ◌&&◌, ◌||◌, eqb, List, Ok, Err, MatchBool, Result, sym, subst}
+use lib.ListN.{length-map}
 use Rattle.monomial.specs.Monomial.{variable}
 use Rattle.polynomial.specs.Polynomial.{Poly}
 use Rattle.polynomial.specs.Check.{Acceptable, Fits, most_terms}
 use Rattle.involutive.specs.Reduction.{refuse, row}
 use Rattle.involutive.specs.Value.{scaled}
 use Rattle.involutive.specs.Sheet.{Setting, Lawful, State, Chosen, with_mark}
-use Rattle.involutive.specs.Answers.{Answer, Steps, denied, marked-answer, appended-answer, step_wide, step_stuck, step_mark, step_full, step_row}
-use Rattle.involutive.proofs.Soundness
+use Rattle.involutive.specs.Answers.{Answer, Steps, denied, marked_answer, appended_answer, step_wide, step_stuck, step_mark, step_full, step_row}
+use Rattle.involutive.specs.Sound.{Row as Good}
+use Rattle.involutive.proofs.Monomials
+use Rattle.involutive.proofs.Typing.{ground_of}
 use Rattle.involutive.proofs.Values
+use Rattle.involutive.proofs.WrittenLists
 use Rattle.calls.specs.declared.refusal.Refusal.{Refusal}
 use Rattle.calls.specs.Told.{told}
 use Rattle.reduction.specs.declared.table.Row.{Row}
-use Rattle.reduction.specs.Table.{table_of, SoundTable}
+use Rattle.reduction.specs.Table.{terms_of, table_of, SoundTable}
 use Rattle.sheet.specs.declared.settle.Settled.TheVariants.{Nothing, Appended}
 use Rattle.sheet.specs.declared.settle.Settled.{Settled}
 use Rattle.sheet.specs.Marks.{marked, state_of}
 use Rattle.sheet.specs.Settling.{Settles, stuck, nothing, full, appends}
-use Rattle.sheet.specs.Whole.{Whole}
+use Rattle.sheet.proofs.Mapping.{map_at, element}
 
-module _ (S : Setting) (W : Lawful S) (rows : List Row) (xs : List (List Bool)) (I : Whole S rows xs) (k v : ℕ) (C : Chosen S (state_of rows xs) k v) where
+module _ (S : Setting) (W : Lawful S) (rows : List Row) (xs : List (List Bool)) (T : SoundTable S rows) (k v : ℕ) (C : Chosen S (state_of rows xs) k v) where
   abbrev s : State
   s = state_of rows xs
 
@@ -30,32 +34,36 @@ module _ (S : Setting) (W : Lawful S) (rows : List Row) (xs : List (List Bool)) 
   abbrev h : Poly
   h = line rows
 
+  good : Good S (row (table_of rows) k)
+  good =
+      let w = C.pair.at_row in
+      let m : k - 1 < length rows = omega (arith, w, length-map rows terms_of) in
+      let x = element rows (k - 1) m in
+      subst (Good S) (sym (map_at terms_of rows (k - 1) x.0 [] m x.1)) (T (k - 1) x.0 m x.1).good
+
   -- the prolongation can be reduced where no exponent is too large
   pub acceptable : Fits h → Acceptable S.field S.order S.variables h
   acceptable f = record {
-    written = Soundness.prolonged_written S W I.state k v C.pair.at_variable;
+    written = WrittenLists.written_scaled (ground_of S W) 1 (variable v) (omega arith) W.field.differ (Monomials.in_variable C.pair.at_variable) (row s.rows k) good.acceptable.written;
     fits = f;
-    short = subst (λ x. x ≤ most_terms) (sym (Values.length_scaled S.field 1 (variable v) (row s.rows k))) (Soundness.row_at S W I.state k C.pair.at_row).acceptable.short;
+    short = subst (λ x. x ≤ most_terms) (sym (Values.length_scaled S.field 1 (variable v) (row s.rows k))) good.acceptable.short;
   }
 
   -- the answer and the sheet after it
   abbrev pub Treats : Answer → List Row → List (List Bool) → Type 0
-  Treats a rows' xs' = Steps S s a (state_of rows' xs') × Whole S rows' xs'
-
-  whole : {a : Answer} {rows' : List Row} {xs' : List (List Bool)} → SoundTable S rows' → Steps S s a (state_of rows' xs') → Treats a rows' xs'
-  whole T st = (st, record { table = T; state = Soundness.steps S W I.state st })
+  Treats a rows' xs' = Steps S s a (state_of rows' xs') × SoundTable S rows'
 
   pub treat_wide : (Fits h → ⊥) → Treats (denied (refuse 9 k)) rows xs
-  treat_wide f = whole I.table (step_wide C f)
+  treat_wide f = (step_wide C f, T)
 
   denied_steps : {d : Refusal} {s' : State} → Fits h → Settles S s h (Err d) s' → Steps S s (denied (told d)) s'
   denied_steps f (stuck R) = step_stuck C f R
   denied_steps f (full R m) = step_full C f R m
 
-  marked_steps : {s' : State} → Fits h → Settles S s h (Ok Nothing) s' → Steps S s marked-answer (with_mark s' k v)
+  marked_steps : {s' : State} → Fits h → Settles S s h (Ok Nothing) s' → Steps S s marked_answer (with_mark s' k v)
   marked_steps f (nothing R) = step_mark C f R
 
-  appended_steps : {s' : State} → Fits h → Settles S s h (Ok Appended) s' → Steps S s appended-answer s'
+  appended_steps : {s' : State} → Fits h → Settles S s h (Ok Appended) s' → Steps S s appended_answer s'
   appended_steps f (appends R l) = step_row C f R l
 
   -- what prolonging a row of the slice says of the rows
@@ -63,23 +71,23 @@ module _ (S : Setting) (W : Lawful S) (rows : List Row) (xs : List (List Bool)) 
   Prolongs rows r p = SoundTable S rows → MatchBool r (Fits (line rows) × (p ≡ line rows)) (Fits (line rows) → ⊥)
 
   pub at_rows : {slice : List Row} (r : Bool) (p : Poly) → slice ≡ rows → Prolongs slice r p → MatchBool r (Fits h × (p ≡ h)) (Fits h → ⊥)
-  at_rows r p e q = subst (λ x. Prolongs x r p) e q I.table
+  at_rows r p e q = subst (λ x. Prolongs x r p) e q T
 
   -- what settling says of what was prolonged
   abbrev pub Says : Poly → Result Settled Refusal → List Row → List (List Bool) → Type 0
   Says p r rows' xs' = SoundTable S rows → Acceptable S.field S.order S.variables p → Settles S s p r (state_of rows' xs') × SoundTable S rows'
 
   settled : (p : Poly) (r : Result Settled Refusal) (rows' : List Row) (xs' : List (List Bool)) → Fits h × (p ≡ h) → Says p r rows' xs' → Settles S s h r (state_of rows' xs') × SoundTable S rows'
-  settled p r rows' xs' f q = subst (λ x. Says x r rows' xs') f.1 q I.table (acceptable f.0)
+  settled p r rows' xs' f q = subst (λ x. Says x r rows' xs') f.1 q T (acceptable f.0)
 
   pub treat_denied : (p : Poly) (d : Refusal) (rows' : List Row) (xs' : List (List Bool)) → Fits h × (p ≡ h) → Says p (Err d) rows' xs' → Treats (denied (told d)) rows' xs'
-  treat_denied p d rows' xs' f q = let z = settled p (Err d) rows' xs' f q in whole z.1 (denied_steps f.0 z.0)
+  treat_denied p d rows' xs' f q = let z = settled p (Err d) rows' xs' f q in (denied_steps f.0 z.0, z.1)
 
-  pub treat_appended : (p : Poly) (x : Settled) (rows' : List Row) (xs' : List (List Bool)) → x ≡ Appended → Fits h × (p ≡ h) → Says p (Ok x) rows' xs' → Treats appended-answer rows' xs'
-  treat_appended p x rows' xs' e f q = let z = settled p (Ok Appended) rows' xs' f (subst (λ x. Says p (Ok x) rows' xs') e q) in whole z.1 (appended_steps f.0 z.0)
+  pub treat_appended : (p : Poly) (x : Settled) (rows' : List Row) (xs' : List (List Bool)) → x ≡ Appended → Fits h × (p ≡ h) → Says p (Ok x) rows' xs' → Treats appended_answer rows' xs'
+  treat_appended p x rows' xs' e f q = let z = settled p (Ok Appended) rows' xs' f (subst (λ x. Says p (Ok x) rows' xs') e q) in (appended_steps f.0 z.0, z.1)
 
-  pub treat_marked : (p : Poly) (x : Settled) (rows' : List Row) (xs' ys : List (List Bool)) → x ≡ Nothing → Fits h × (p ≡ h) → Says p (Ok x) rows' xs' → ((j u : ℕ) → marked ys j u ≡ ((eqb j k && eqb u v) || marked xs' j u)) → Treats marked-answer rows' ys
+  pub treat_marked : (p : Poly) (x : Settled) (rows' : List Row) (xs' ys : List (List Bool)) → x ≡ Nothing → Fits h × (p ≡ h) → Says p (Ok x) rows' xs' → ((j u : ℕ) → marked ys j u ≡ ((eqb j k && eqb u v) || marked xs' j u)) → Treats marked_answer rows' ys
   treat_marked p x rows' xs' ys e f q m =
       let z = settled p (Ok Nothing) rows' xs' f (subst (λ x. Says p (Ok x) rows' xs') e q) in
       let w : with_mark (state_of rows' xs') k v ≡ state_of rows' ys = λ i. record { rows = table_of rows'; marks = λ j u. sym (m j u) i } in
-      whole z.1 (subst (Steps S s marked-answer) w (marked_steps f.0 z.0))
+      (subst (Steps S s marked_answer) w (marked_steps f.0 z.0), z.1)

@@ -1,3 +1,4 @@
+pub mod Agreement
 pub mod Choosing
 pub mod Copying
 pub mod Making
@@ -7,4 +8,3 @@ pub mod Rows
 pub mod Selecting
 pub mod Settling
 pub mod Units
-pub mod Whole

@@ -3,7 +3,6 @@ ghost use Rattle.std.specs.Prelude.{◌≡◌, [], IfOk, MatchResult};
 ghost use Rattle.reduction.specs.Table.{setting as setting_of};
 ghost use Rattle.sheet.specs.Making.{Begins, Denies};
 ghost use Rattle.sheet.specs.Marks.{rows_of, state_of};
-ghost use Rattle.sheet.specs.Whole.{Whole};
 
 use crate::copy::CopyBuffer;
 use crate::marks::Marks;
@@ -50,7 +49,7 @@ impl<F: Field + Drop, O: Order + Drop, D: Division + Drop> Sheet<F, O, D> {
         division: D,
         variables: usize,
     ) -> Result<Sheet<F, O, D>, Unmade>
-        ensures made { MatchResult result (λ x. Begins (setting_of (F.Field.meaning field) (O.Order.meaning order) (D.Division.meaning division) variables) (setting_of (F.Field.meaning x.field) (O.Order.meaning x.order) (D.Division.meaning x.division) x.variables) (state_of x.table.rows.items (rows_of x.marks)) (Whole (setting_of (F.Field.meaning x.field) (O.Order.meaning x.order) (D.Division.meaning x.division) x.variables) x.table.rows.items (rows_of x.marks))) (Denies variables) }
+        ensures made { MatchResult result (λ x. Begins (setting_of (F.Field.meaning field) (O.Order.meaning order) (D.Division.meaning division) variables) (setting_of (F.Field.meaning x.field) (O.Order.meaning x.order) (D.Division.meaning x.division) x.variables) (state_of x.table.rows.items (rows_of x.marks))) (Denies variables) }
     {
         if variables == 0 || variables > WIDTH {
             return Err(Unmade::Variables);

@@ -1,7 +1,6 @@
 // The six calls of a sheet.
 ghost use Rattle.reduction.specs.Table.{setting as setting_of};
 ghost use Rattle.sheet.specs.Marks.{rows_of, state_of};
-ghost use Rattle.sheet.specs.Whole.{Whole};
 
 use crate::choose::{choose, is_closed};
 use crate::copy::write_fair_copy;
@@ -25,11 +24,7 @@ impl<F: Field, O: Order, D: Division> Calls for Sheet<F, O, D> {
 
     ghost state = { λ x. state_of x.table.rows.items (rows_of x.marks) };
 
-    ghost sound = { λ x. Whole (setting_of (F.Field.meaning x.field) (O.Order.meaning x.order) (D.Division.meaning x.division) x.variables) x.table.rows.items (rows_of x.marks) };
-
     ghost lawful = { λ x. record { field = F.Field.laws x.field; order = O.Order.laws x.order; division = D.Division.laws x.division; variables = (x.some, x.few) } };
-
-    ghost stands = { λ x w. w.state };
 
     // Reduces a generator and appends what is left of it: how many rows there are then.
     fn add(&mut self, f: &[Term]) -> Result<usize, Refusal> {

@@ -5,9 +5,8 @@ ghost use Rattle.monomial.specs.Division.{Within};
 ghost use Rattle.involutive.specs.Sheet.{Chosen};
 ghost use Rattle.involutive.specs.Answers.{Steps};
 ghost use Rattle.calls.specs.Told.{stepped};
-ghost use Rattle.reduction.specs.Table.{setting};
+ghost use Rattle.reduction.specs.Table.{setting, SoundTable};
 ghost use Rattle.sheet.specs.Marks.{rows_of, state_of};
-ghost use Rattle.sheet.specs.Whole.{Whole};
 
 use crate::choose::Pick;
 use crate::marks::Marks;
@@ -32,7 +31,7 @@ pub(crate) fn treat<F: Field, O: Order, D: Division>(
 ) -> Result<Step, Refusal>
     requires { Within pick.row (vec_len table.old.rows) × Within pick.variable width }
     ensures refused { OnErr result ((table.new.rows.items ≡ table.old.rows.items) × (marks.new ≡ marks.old)) }
-    ensures treats { (n : ℕ) → Within n width → Whole (setting (F.Field.meaning field.now) (O.Order.meaning order.now) (D.Division.meaning division.now) n) table.old.rows.items (rows_of marks.old) → Chosen (setting (F.Field.meaning field.now) (O.Order.meaning order.now) (D.Division.meaning division.now) n) (state_of table.old.rows.items (rows_of marks.old)) pick.row pick.variable → Steps (setting (F.Field.meaning field.now) (O.Order.meaning order.now) (D.Division.meaning division.now) n) (state_of table.old.rows.items (rows_of marks.old)) (stepped result) (state_of table.new.rows.items (rows_of marks.new)) × Whole (setting (F.Field.meaning field.now) (O.Order.meaning order.now) (D.Division.meaning division.now) n) table.new.rows.items (rows_of marks.new) }
+    ensures treats { (n : ℕ) → Within n width → SoundTable (setting (F.Field.meaning field.now) (O.Order.meaning order.now) (D.Division.meaning division.now) n) table.old.rows.items → Chosen (setting (F.Field.meaning field.now) (O.Order.meaning order.now) (D.Division.meaning division.now) n) (state_of table.old.rows.items (rows_of marks.old)) pick.row pick.variable → Steps (setting (F.Field.meaning field.now) (O.Order.meaning order.now) (D.Division.meaning division.now) n) (state_of table.old.rows.items (rows_of marks.old)) (stepped result) (state_of table.new.rows.items (rows_of marks.new)) × SoundTable (setting (F.Field.meaning field.now) (O.Order.meaning order.now) (D.Division.meaning division.now) n) table.new.rows.items }
 {
     let k = pick.row;
     let v = pick.variable;

@@ -4,6 +4,5 @@ use Rattle.replay.proofs.play.do_steps.Goals as goal
 pub returns : goal.returns
 returns g c = record {
   kept = c.repeat_step-steps.ensures.kept;
-  stays = c.repeat_step-steps.ensures.stays;
   acts = made_then c.write_steps.result c.write_steps.ensures (λ _ t h w. acts_steps c.from_be_bytes.ensures t (c.repeat_step-steps.ensures.steps w));
 }

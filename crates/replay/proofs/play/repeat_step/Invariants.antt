@@ -1,11 +1,12 @@
 use Rattle.std.proofs.Common.{◌≡◌, ◌+◌, ◌≤◌, List}
 use Rattle.involutive.specs.Log.{Call}
+use Rattle.involutive.specs.Sound.{Sound}
 use Rattle.replay.proofs.Steppings.{Stood}
 use Rattle.replay.proofs.play.repeat_step.Given as goal
 
 abbrev pub invariant-loop-left : goal.invariant-loop-left
 invariant-loop-left g l = (g.C.Calls.setting l.sheet ≡ g.C.Calls.setting l.initial.sheet) × (l.granted + l.left ≤ l.count) ×
-    (g.C.Calls.sound l.initial.sheet → g.C.Calls.sound l.sheet × ((log : List Call) → Stood (g.C.Calls.setting l.initial.sheet) (g.C.Calls.state l.initial.sheet) log l.count l.granted (g.C.Calls.state l.sheet) l.left))
+    (Sound (g.C.Calls.setting l.initial.sheet) (g.C.Calls.state l.initial.sheet) → Sound (g.C.Calls.setting l.initial.sheet) (g.C.Calls.state l.sheet) × ((log : List Call) → Stood (g.C.Calls.setting l.initial.sheet) (g.C.Calls.state l.initial.sheet) log l.count l.granted (g.C.Calls.state l.sheet) l.left))
 
 abbrev pub decreases-loop-left : goal.decreases-loop-left
 decreases-loop-left g l = l.left

@@ -18,7 +18,7 @@ returns-in-Err g c =
     let W : Lawful S = record { field = g.met.F.Field.laws x.field; order = g.met.O.Order.laws x.order; division = g.met.D.Division.laws x.division; variables = (x.some, x.few) } in
     let rows = vec_items x.table.rows in
     let xs = rows_of x.marks in
-    let A = add_promise S W rows rows xs xs c.args.f.now (Err (Polynomial c.in-Err.unfit)) (λ I. (add_faulty (fault_some _ _ c.in-Err.ensures.first), I.table)) in
+    let A = add_promise S W rows rows xs xs c.args.f.now (Err (Polynomial c.in-Err.unfit)) (add_faulty (fault_some _ _ c.in-Err.ensures.first)) in
     record { kept = refl; refused = refl; stays = A.stays; answer = A.answer; logged = A.logged }
 
 pub returns-in-Err-settle : goal.returns-in-Err-settle
@@ -33,9 +33,8 @@ returns-in-Err-settle g c =
     let f = c.args.f.now in
     let a = c.in-Ok.ensures.accepts.0 refl in
     let l = loaded f (vec_items x.work.rest.terms) (vec_items c.load.new.self.terms) c.load.result a.short c.load.ensures in
-    let A = add_promise S W rows rows' xs xs' f (Err c.in-Err-settle.refusal) (λ I.
-    let Q = c.in-Err-settle.ensures.settles x.variables (x.some, x.few) I.table (subst (Acceptable S.field S.order S.variables) (sym l) a) in
-    (adds_denied {S = S} (fault_none _ _ c.in-Ok.ensures.first) (subst (λ h. Settles S (state_of rows xs) h (Err c.in-Err-settle.refusal) (state_of rows' xs')) l Q.0), Q.1)) in
+    let Q = c.in-Err-settle.ensures.settles x.variables (x.some, x.few) x.agrees (subst (Acceptable S.field S.order S.variables) (sym l) a) in
+    let A = add_promise S W rows rows' xs xs' f (Err c.in-Err-settle.refusal) (adds_denied {S = S} (fault_none _ _ c.in-Ok.ensures.first) (subst (λ h. Settles S (state_of rows xs) h (Err c.in-Err-settle.refusal) (state_of rows' xs')) l Q.0)) in
     let k = c.in-Err-settle.ensures.kept in
     record { kept = refl; refused = same_state rows rows' x.marks c.settle.new.marks k.0 k.1; stays = A.stays; answer = A.answer; logged = A.logged }
 
@@ -52,8 +51,15 @@ returns-in-Ok-settle g c =
     let a = c.in-Ok.ensures.accepts.0 refl in
     let l = loaded f (vec_items x.work.rest.terms) (vec_items c.load.new.self.terms) c.load.result a.short c.load.ensures in
     let k : length (state_of rows' xs').rows ≡ c.len.result = length-map rows' terms_of ∙ search rules in
-    let A = add_promise S W rows rows' xs xs' f (Ok c.len.result) (λ I.
-    let Q = c.in-Ok-settle.ensures.settles x.variables (x.some, x.few) I.table (subst (Acceptable S.field S.order S.variables) (sym l) a) in
+    let Q = c.in-Ok-settle.ensures.settles x.variables (x.some, x.few) x.agrees (subst (Acceptable S.field S.order S.variables) (sym l) a) in
     let B = adds_settled {S = S} (fault_none _ _ c.in-Ok.ensures.first) (subst (λ h. Settles S (state_of rows xs) h (Ok c.in-Ok-settle.field-0) (state_of rows' xs')) l Q.0) in
-    (subst (λ n. Adds S (state_of rows xs) f (rows_now n) (state_of rows' xs')) k B, Q.1)) in
+    let A = add_promise S W rows rows' xs xs' f (Ok c.len.result) (subst (λ n. Adds S (state_of rows xs) f (rows_now n) (state_of rows' xs')) k B) in
     record { kept = refl; refused = tt; stays = A.stays; answer = A.answer; logged = A.logged }
+
+pub invariant_of-self-in-Ok : goal.invariant_of-self-in-Ok
+invariant_of-self-in-Ok g c =
+    let x = c.args.self.now in
+    let S = setting (g.F.Field.meaning x.field) (g.O.Order.meaning x.order) (g.D.Division.meaning x.division) x.variables in
+    let a = c.in-Ok.ensures.accepts.0 refl in
+    let l = loaded c.args.f.now (vec_items x.work.rest.terms) (vec_items c.load.new.self.terms) c.load.result a.short c.load.ensures in
+    record { some = x.some; few = x.few; agrees = (c.settle.ensures.settles x.variables (x.some, x.few) x.agrees (subst (Acceptable S.field S.order S.variables) (sym l) a)).1 }

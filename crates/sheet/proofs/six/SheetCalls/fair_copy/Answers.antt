@@ -1,10 +1,11 @@
 use Rattle.std.proofs.Common.{vec_items, refl}
 use Rattle.involutive.specs.Sheet.{Lawful}
+use Rattle.involutive.specs.Sound.{Sound}
 use Rattle.involutive.specs.Answers.{copy_open}
 use Rattle.involutive.specs.Log.{After}
 use Rattle.reduction.specs.Table.{setting}
-use Rattle.sheet.specs.Marks.{rows_of}
-use Rattle.sheet.specs.Whole.{Whole}
+use Rattle.sheet.specs.Marks.{rows_of, state_of}
+use Rattle.sheet.proofs.Whole.{Whole}
 use Rattle.sheet.proofs.Closing.{is_closed, is_open, copied_rows}
 use Rattle.sheet.proofs.six.SheetCalls.fair_copy.Goals as goal
 
@@ -15,7 +16,8 @@ returns-then-not-is_closed g c =
     let W : Lawful S = record { field = g.met.F.Field.laws x.field; order = g.met.O.Order.laws x.order; division = g.met.D.Division.laws x.division; variables = (x.some, x.few) } in
     let rows = vec_items x.table.rows in
     let xs = rows_of x.marks in
-    let k = λ (I : Whole S rows xs). copy_open (is_open S W rows xs I c.as_slice.ensures.value c.if-not-is_closed.ensures) in
+    let V : Sound S (state_of rows xs) → Whole S rows xs = λ I. record { table = x.agrees; state = I } in
+    let k = λ (I : Sound S (state_of rows xs)). copy_open (is_open S W rows xs (V I) c.as_slice.ensures.value c.if-not-is_closed.ensures) in
     record { kept = refl; same = refl; stays = λ I. I; within = refl; answer = k; logged = λ I calls gs a. After.copied a (k I) }
 
 pub returns : goal.returns
@@ -25,5 +27,6 @@ returns g c =
     let W : Lawful S = record { field = g.met.F.Field.laws x.field; order = g.met.O.Order.laws x.order; division = g.met.D.Division.laws x.division; variables = (x.some, x.few) } in
     let rows = vec_items x.table.rows in
     let xs = rows_of x.marks in
-    let k = λ (I : Whole S rows xs). copied_rows S W rows xs I c.args.out.now c.write_fair_copy.result c.write_fair_copy.new.out c.as_slice-2.ensures.value (is_closed S W rows xs I c.as_slice.ensures.value c.if-not-is_closed.ensures) (c.write_fair_copy.ensures.answer S.division S.variables xs) in
+    let V : Sound S (state_of rows xs) → Whole S rows xs = λ I. record { table = x.agrees; state = I } in
+    let k = λ (I : Sound S (state_of rows xs)). copied_rows S W rows xs (V I) c.args.out.now c.write_fair_copy.result c.write_fair_copy.new.out c.as_slice-2.ensures.value (is_closed S W rows xs (V I) c.as_slice.ensures.value c.if-not-is_closed.ensures) (c.write_fair_copy.ensures.answer S.division S.variables xs) in
     record { kept = refl; same = refl; stays = λ I. I; within = c.write_fair_copy.ensures.within; answer = k; logged = λ I calls gs a. After.copied a (k I) }

@@ -1,10 +1,11 @@
 use Rattle.std.proofs.Common.{vec_items}
 use Rattle.involutive.specs.Sheet.{Lawful}
+use Rattle.involutive.specs.Sound.{Sound}
 use Rattle.involutive.specs.Log.{After}
 use Rattle.reduction.specs.Table.{setting}
-use Rattle.sheet.specs.Marks.{rows_of}
+use Rattle.sheet.specs.Marks.{rows_of, state_of}
 use Rattle.involutive.specs.Answers.{verdict_open}
-use Rattle.sheet.specs.Whole.{Whole}
+use Rattle.sheet.proofs.Whole.{Whole}
 use Rattle.sheet.proofs.Closing.{is_closed, is_open, verdict_one, verdict_zero}
 use Rattle.sheet.proofs.six.SheetCalls.verdict.Goals as goal
 
@@ -15,7 +16,8 @@ returns-then-not-is_closed g c =
     let W : Lawful S = record { field = g.met.F.Field.laws x.field; order = g.met.O.Order.laws x.order; division = g.met.D.Division.laws x.division; variables = (x.some, x.few) } in
     let rows = vec_items x.table.rows in
     let xs = rows_of x.marks in
-    let k = λ (I : Whole S rows xs). verdict_open (is_open S W rows xs I c.as_slice.ensures.value c.if-not-is_closed.ensures) in
+    let V : Sound S (state_of rows xs) → Whole S rows xs = λ I. record { table = x.agrees; state = I } in
+    let k = λ (I : Sound S (state_of rows xs)). verdict_open (is_open S W rows xs (V I) c.as_slice.ensures.value c.if-not-is_closed.ensures) in
     record { answer = k; logged = λ I calls gs a. After.judged a (k I) }
 
 pub returns-then-leads_with_one : goal.returns-then-leads_with_one
@@ -25,7 +27,8 @@ returns-then-leads_with_one g c =
     let W : Lawful S = record { field = g.met.F.Field.laws x.field; order = g.met.O.Order.laws x.order; division = g.met.D.Division.laws x.division; variables = (x.some, x.few) } in
     let rows = vec_items x.table.rows in
     let xs = rows_of x.marks in
-    let k = λ (I : Whole S rows xs). verdict_one S W rows xs I c.as_slice-2.ensures.value (is_closed S W rows xs I c.as_slice.ensures.value c.if-not-is_closed.ensures) c.if-leads_with_one.ensures in
+    let V : Sound S (state_of rows xs) → Whole S rows xs = λ I. record { table = x.agrees; state = I } in
+    let k = λ (I : Sound S (state_of rows xs)). verdict_one S W rows xs (V I) c.as_slice-2.ensures.value (is_closed S W rows xs (V I) c.as_slice.ensures.value c.if-not-is_closed.ensures) c.if-leads_with_one.ensures in
     record { answer = k; logged = λ I calls gs a. After.judged a (k I) }
 
 pub returns-else-leads_with_one : goal.returns-else-leads_with_one
@@ -35,5 +38,6 @@ returns-else-leads_with_one g c =
     let W : Lawful S = record { field = g.met.F.Field.laws x.field; order = g.met.O.Order.laws x.order; division = g.met.D.Division.laws x.division; variables = (x.some, x.few) } in
     let rows = vec_items x.table.rows in
     let xs = rows_of x.marks in
-    let k = λ (I : Whole S rows xs). verdict_zero S W rows xs I c.as_slice-2.ensures.value (is_closed S W rows xs I c.as_slice.ensures.value c.if-not-is_closed.ensures) c.if-leads_with_one.ensures in
+    let V : Sound S (state_of rows xs) → Whole S rows xs = λ I. record { table = x.agrees; state = I } in
+    let k = λ (I : Sound S (state_of rows xs)). verdict_zero S W rows xs (V I) c.as_slice-2.ensures.value (is_closed S W rows xs (V I) c.as_slice.ensures.value c.if-not-is_closed.ensures) c.if-leads_with_one.ensures in
     record { answer = k; logged = λ I calls gs a. After.judged a (k I) }
