@@ -33,17 +33,16 @@ fn raise(m: &Monomial, v: usize) -> Monomial
     Monomial { exponents }
 }
 
-// The smaller one stays, and at a tie the one that is there. It is changed in place, since copying it for every pair would
-// cost more than comparing.
-fn keep_better<O: Order>(order: &O, pick: Pick, best: &mut Option<Pick>)
-    ensures { best.new ≡ bettered (O.Order.meaning order.now) pick best.old }
+// The smaller one, and at a tie the one that is there.
+fn better<O: Order>(order: &O, pick: Pick, best: Option<Pick>) -> Option<Pick>
+    ensures { result ≡ bettered (O.Order.meaning order.now) pick best }
 {
     match best {
-        None => *best = Some(pick),
+        None => Some(pick),
         Some(old) => match order.compare(&pick.height, &old.height) {
-            Ordering::Less => *old = pick,
-            Ordering::Equal => {}
-            Ordering::Greater => {}
+            Ordering::Less => Some(pick),
+            Ordering::Equal => Some(old),
+            Ordering::Greater => Some(old),
         },
     }
 }
@@ -62,11 +61,12 @@ fn scan<O: Order>(
     lead: &Lead,
     marks: &Marks,
     k: usize,
-    best: &mut Option<Pick>,
-)
+    first: Option<Pick>,
+) -> Option<Pick>
     requires { Within k most_rows × (variables ≤ width) }
-    ensures { best.new ≡ scanned (O.Order.meaning order.now) lead.now (rows_of marks.now) k 1 variables best.old }
+    ensures { result ≡ scanned (O.Order.meaning order.now) lead.now (rows_of marks.now) k 1 variables first }
 {
+    let mut best = first;
     for i in 0..variables {
         let v = i + 1;
         if is_open(lead, marks, k, v) {
@@ -75,9 +75,10 @@ fn scan<O: Order>(
                 variable: v,
                 height: raise(&lead.monomial, v),
             };
-            keep_better(order, pick, best);
+            best = better(order, pick, best);
         }
     }
+    best
 }
 
 // The pair that a step takes, or nothing where every pair is marked.
@@ -93,7 +94,7 @@ pub(crate) fn choose<O: Order>(
 {
     let mut best = None;
     for i in 0..rows.len() {
-        scan(order, variables, &rows[i].lead, marks, i + 1, &mut best);
+        best = scan(order, variables, &rows[i].lead, marks, i + 1, best);
     }
     best
 }

@@ -5,7 +5,7 @@ ghost use Rattle.sheet.specs.Marks.{rows_of, state_of};
 use crate::choose::{choose, is_closed};
 use crate::copy::write_fair_copy;
 use crate::put::put;
-use crate::settle::{refusal_of, settle};
+use crate::settle::refusal_of;
 use crate::sheet::Sheet;
 use crate::treat::treat;
 use crate::unit::leads_with_one;
@@ -26,25 +26,9 @@ impl<F: Field, O: Order, D: Division> Calls for Sheet<F, O, D> {
 
     ghost lawful = { λ x. record { field = F.Field.laws x.field; order = O.Order.laws x.order; division = D.Division.laws x.division; variables = (x.some, x.few) } };
 
-    // Reduces a generator and appends what is left of it: how many rows there are then.
+    // The sheet's own method of this name does it.
     fn add(&mut self, f: &[Term]) -> Result<usize, Refusal> {
-        match check(&self.field, &self.order, self.variables, f) {
-            Err(unfit) => Err(Refusal::Polynomial(unfit)),
-            Ok(()) => {
-                let _ = self.work.rest.load(f);
-                match settle(
-                    &self.field,
-                    &self.order,
-                    &self.division,
-                    &mut self.table,
-                    &mut self.marks,
-                    &mut self.work,
-                ) {
-                    Err(refusal) => Err(refusal),
-                    Ok(_) => Ok(self.table.rows.len()),
-                }
-            }
-        }
+        self.add(f)
     }
 
     // Treats the smallest unmarked pair, where there is one.

@@ -11,7 +11,7 @@ loop-i-preserved g c =
     let n = c.args.variables in
     let i = c.loop-i.i in
     let rows = c.args.rows.now in
-    ap (chosen O n xs (drop (i + 1) rows) (suc (i + 1))) c.scan.ensures ∙ sym (choose_step O n xs rows i c.index-rows-i.result c.loop-i.best c.loop-i-test.true) ∙ c.loop-i.invariant
+    ap (chosen O n xs (drop (i + 1) rows) (suc (i + 1))) c.scan-best.ensures ∙ sym (choose_step O n xs rows i c.index-rows-i.result c.loop-i.best c.loop-i-test.true) ∙ c.loop-i.invariant
 
 pub returns : goal.returns
 returns g c =

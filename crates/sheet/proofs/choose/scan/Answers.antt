@@ -15,7 +15,7 @@ loop-i-preserved g c =
     let i = c.loop-i.i in
     let best = c.loop-i.best in
     let e : c.if-is_open.best ≡ consider O l xs k (i + 1) best = elim c.if-is_open.branch [
-      | then-is_open w ↦ w.best-is ∙ w.keep_better.ensures ∙ taken O l xs k (i + 1) best w.raise.result.exponents w.if-is_open.ensures w.raise.ensures
+      | then-is_open w ↦ w.best-is ∙ w.better-best.ensures ∙ taken O l xs k (i + 1) best w.raise.result.exponents w.if-is_open.ensures w.raise.ensures
       | else-is_open w ↦ w.best-is ∙ passed O l xs k (i + 1) best w.if-is_open.ensures
     ] in
     ap (scanned O l xs k (suc (i + 1)) (n - (i + 1))) e ∙ sym (scan_step O l xs k n i best c.loop-i-test.true) ∙ c.loop-i.invariant
