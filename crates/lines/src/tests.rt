@@ -19,7 +19,7 @@ fn remainder_line(rt: HostRuntime) -> Result<(), Fail> {
         value: 1,
     };
     write_terms_line(rt.alloc(), &mut out, fields, &terms)?;
-    assert!(rt; out.as_slice() == b"57 04 0 1 010001000100000000\n");
+    assert!(rt; out.as_slice() == b"57 04 0 1 010001000100000000\n".as_slice());
     Ok(())
 }
 
@@ -34,6 +34,6 @@ fn steps_line(rt: HostRuntime) -> Result<(), Fail> {
         value: 7,
     };
     write_count_line(rt.alloc(), &mut out, fields, 0)?;
-    assert!(rt; out.as_slice() == b"7 03 16 7 0\n");
+    assert!(rt; out.as_slice() == b"7 03 16 7 0\n".as_slice());
     Ok(())
 }
