@@ -16,6 +16,14 @@ BY_HAND = {
     "times-reverseAux": "times_reverse_aux",
     "starts-no-term": "StartsNoTerm",
     "unless-appended": "UnlessAppended",
+    "M-is": "m_is",
+    "Height": "height_of",
+    "G-0": "g_zero",
+    "G-shift": "g_shift",
+    "in-U": "in_u",
+    "out-U": "out_u",
+    "Command-as-Term": "CommandTerm",
+    "Settled-as-Appended": "SettledAppended",
 }
 # Plain words, which are added to an operator with an underscore.
 PLAIN = {"assoc", "comm", "cancel", "left"}
@@ -23,7 +31,9 @@ WORD = re.compile(r"[A-Za-z0-9_']+\??\Z")
 DECLARED = re.compile(r"^ *(?:abbrev |unfoldable )?(?:pub )?(?:abbrev |unfoldable )?(?:pub )?([^\s:()\[\]{}]+) : (.*)$")
 TYPE = re.compile(r"^ *(?:pub )?(?:record|data) ([^\s:()\[\]{}]+)")
 CONSTRUCTORS = re.compile(r"^ +(?:pub )?((?:[^\s:()\[\]{}]+ )+):")
-ALIAS = re.compile(r" as ([a-z0-9]+(?:-[a-z0-9]+)+)")
+ALIAS = re.compile(r" as ([A-Za-z0-9]+(?:-[A-Za-z0-9]+)+)")
+# Parameters, and what `let` and `λ` bind.
+BOUND = re.compile(r"[({]((?:[^\s(){}\[\]:,.]+ )+):|\blet ([^\s(){}\[\]:,.]+) [:=]|λ ((?:[^\s(){}\[\]:,.]+ ?)+)\.")
 LIBRARY = re.compile(r"use (?:Rattle\.(?:std|core)|mathlib|native|Prim|lib|borrow|denote)\.[^{;]*\{([^}]*)\}")
 BREAKS = re.compile(r"([\s(){}\[\],;.\"]+)")
 
@@ -40,7 +50,7 @@ def new_name(name):
     parts = name.split("-")
     if len(parts) == 1 or not all(parts):
         return name
-    if name[0].isupper():
+    if name[0].isupper() and all(WORD.match(part) for part in parts):
         return parts[0] + "".join(part[:1].upper() + part[1:] for part in parts[1:])
     out = parts[0]
     for before, part in zip(parts, parts[1:]):
@@ -56,6 +66,10 @@ def declared_names():
             m = DECLARED.match(line)
             if m and not re.match(r"(goal|need|given)\.", m.group(2)):
                 names.setdefault(m.group(1), set()).add(path)
+            for groups in BOUND.findall(line.partition("-- ")[0]):
+                for name in " ".join(groups).split():
+                    if "-" in name and not name.startswith(("-", "_")):
+                        names.setdefault(name, set()).add(path)
             m = TYPE.match(line) or CONSTRUCTORS.match(line)
             for name in m.group(1).split() if m else []:
                 names.setdefault(name, set()).add(path)

@@ -85,7 +85,7 @@ module _ (S : Setting) (W : Lawful S) where
 
     scan : (k : R) (a : Mono N) (n : ℕ) → n ≤ N → ((v : ℕ) → Within v n → 0 < exponent a.0 v → D U k.0 v ≡ Some true) ⊎ Other k a n
     scan k a zero h = inl (λ v w i. absurd (omega arith))
-    scan k a (suc n) h = go (scan k a n (omega arith)) (dec_lt 0 (exponent a.0 (suc n))) (E.answers U k.0 (suc n) (Tables.in_U S W T G k.1) (omega arith, omega arith))
+    scan k a (suc n) h = go (scan k a n (omega arith)) (dec_lt 0 (exponent a.0 (suc n))) (E.answers U k.0 (suc n) (Tables.in_u S W T G k.1) (omega arith, omega arith))
       where
         go : ((v : ℕ) → Within v n → 0 < exponent a.0 v → D U k.0 v ≡ Some true) ⊎ Other k a n → Dec (0 < exponent a.0 (suc n)) → (b : Bool) × (D U k.0 (suc n) ≡ Some b) →
             ((v : ℕ) → Within v (suc n) → 0 < exponent a.0 v → D U k.0 v ≡ Some true) ⊎ Other k a (suc n)
@@ -116,7 +116,7 @@ module _ (S : Setting) (W : Lawful S) where
               (sym (Monomials.mul_over x a (Monomials.variable_divides a o.v (o.within.0, omega arith) o.inside)) ∙ Monomials.mul_comm x (Monomials.over a x))
               (Tables.prolonged_sum S W T G k o.v o.within c.1)
               (λ j b m e. record {
-                from = Tables.in_U S W T G k.1;
+                from = Tables.in_u S W T G k.1;
                 by = o.v;
                 by_within = (o.within.0, omega arith);
                 not_multiplicative = o.not_multiplicative;

@@ -180,12 +180,12 @@ module _ (B : Base) where
       pub top_at : (m : M) → lead k ≺ m → value m ≡ 𝟘
       pub sum : Sum (λ m. Unit) (row k ⊕ Algebra.⊖ B value)
 
-    module _ (G : V → Type 0) (G-0 : (v : V) → v ≡ 𝟎 → G v) (G-⊕ : (v w : V) → G v → G w → G (v ⊕ w)) (G-shift : (c : K) (a : M) (v : V) → G v → G (shift c a v)) where
+    module _ (G : V → Type 0) (g_zero : (v : V) → v ≡ 𝟎 → G v) (G-⊕ : (v w : V) → G v → G w → G (v ⊕ w)) (g_shift : (c : K) (a : M) (v : V) → G v → G (shift c a v)) where
       gathers : (h : M) → ((j : R) → lead j ≺ h → G (row j)) → {v : V} → Sum (Below h) v → G v
-      gathers h g (nil e) = G-0 _ e
+      gathers h g (nil e) = g_zero _ e
       gathers h g (add {v = v} {w = w} c k a m q s e) =
           let l : lead k ≺ h = ⊎_elim (λ d. subst (λ x. x ≺ h) (sym d) q) (λ d. ≺-trans _ _ h d q) (raise a (lead k)) in
-          subst G (sym e) (G-⊕ _ _ (G-shift c a _ (g k l)) (gathers h g s))
+          subst G (sym e) (G-⊕ _ _ (g_shift c a _ (g k l)) (gathers h g s))
 
       generate : ((k : R) → ((j : R) → lead j ≺ lead k → G (row j)) → Start G k) → (h : M) → Acc ◌≺◌ h → (k : R) → lead k ≡ h → G (row k)
       generate start h (Acc.intro _ f) k e = go (λ j l. generate start (lead j) (f (lead j) l) j refl)

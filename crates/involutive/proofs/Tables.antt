@@ -118,16 +118,16 @@ module _ (S : Setting) (W : Lawful S) where
     pub member_lead : (k : ℕ) → Within k (length T) → member U k ≡ (lead (nth T k)).0
     member_lead k w = lead_at T (k - 1) (omega arith)
 
-    pub in_U : {k : ℕ} → Within k (length T) → Within k (length U)
-    in_U w = rw size w
+    pub in_u : {k : ℕ} → Within k (length T) → Within k (length U)
+    in_u w = rw size w
 
-    pub out_U : {k : ℕ} → Within k (length U) → Within k (length T)
-    out_U w = rw size at w
+    pub out_u : {k : ℕ} → Within k (length U) → Within k (length T)
+    out_u w = rw size at w
 
     pub distinct : Distinct U
     distinct = record {
-      wide = λ k w. rw (member_lead k (out_U w)) (lead (nth T k)).1.wide;
-      once = λ j k w v e. G.once j k (out_U w) (out_U v) (Monomials.mono_eq (sym (member_lead j (out_U w)) ∙ e ∙ member_lead k (out_U v)));
+      wide = λ k w. rw (member_lead k (out_u w)) (lead (nth T k)).1.wide;
+      once = λ j k w v e. G.once j k (out_u w) (out_u v) (Monomials.mono_eq (sym (member_lead j (out_u w)) ∙ e ∙ member_lead k (out_u v)));
     }
 
     abbrev pub R : Type 0
@@ -143,7 +143,7 @@ module _ (S : Setting) (W : Lawful S) where
         let within : (v : ℕ) → Within v width → 0 < exponent a.0 v → D U k.0 v ≡ Some true = λ v w h. m v (w.0, Monomials.inside a v h) h in
         let q : Monomials.over (Monomials.mul a l) l ≡ a = ap (λ x. Monomials.over x l) (Monomials.mul_comm a l) ∙ Monomials.over_mul l a in
         record {
-          within = in_U k.1;
+          within = in_u k.1;
           divides = subst (λ x. Divides x (Monomials.mul a l).0) (sym e) (subst (λ x. Divides l.0 x.0) (Monomials.mul_comm l a) (Monomials.divides_mul l a));
           multiplicative = λ v w h. within v w (subst (λ x. 0 < exponent x.0 v) q (subst (λ x. 0 < exponent (quotient (Monomials.mul a l).0 x) v) e h));
         }
@@ -192,7 +192,7 @@ module _ (S : Setting) (W : Lawful S) where
 
     divisor : (u : Mono N) (k : ℕ) → Involutive D U k u.0 → Divisor u
     divisor u k i =
-        let w : Within k (length T) = out_U i.within in
+        let w : Within k (length T) = out_u i.within in
         let e : member U k ≡ (lead (nth T k)).0 = member_lead k w in
         let l : Mono N = lead (nth T k) in
         record {

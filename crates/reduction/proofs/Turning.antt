@@ -116,7 +116,7 @@ module _ (G : Ground) (D : Split) (rows : List Row) (sound : SoundTable (setting
 
   -- A turn at term i and row k. The room that is left is what the code computes: it takes the least of `room` and 40, and
   -- hands on what the terms that are done leave of it.
-  module _ (h fine rest : Poly) (turn : ℕ) (st : At h fine rest turn) (i k : ℕ) (found : Finds rows rest (Some (i, k))) (r : Row) (is-r : r ≡ get_or rows k r) (most : ℕ) (enough : room ≤ most) (b : Bool) (fine' : Poly) (test : b ≡ leb (length fine + length (take i rest)) most) (result : fine' ≡ cond b (fine ++ take i rest) fine) where
+  module _ (h fine rest : Poly) (turn : ℕ) (st : At h fine rest turn) (i k : ℕ) (found : Finds rows rest (Some (i, k))) (r : Row) (is_r : r ≡ get_or rows k r) (most : ℕ) (enough : room ≤ most) (b : Bool) (fine' : Poly) (test : b ≡ leb (length fine + length (take i rest)) most) (result : fine' ≡ cond b (fine ++ take i rest) fine) where
     abbrev t : Term
     t = get_or rest i (term 0 [])
 
@@ -124,7 +124,7 @@ module _ (G : Ground) (D : Split) (rows : List Row) (sound : SoundTable (setting
     front = extend_all fine (take i rest) fine' most b (front_fits st (take i rest) (omega (arith, length-take i rest)) most enough) test result
 
     abbrev at_row : SoundRow (setting F O D n) T k r
-    at_row = sound k r found.2.inside is-r
+    at_row = sound k r found.2.inside is_r
 
     cut : rest ≡ take i rest ++ t ∷ drop (i + 1) rest
     cut = sym (take-append-drop i rest) ∙ ap (λ x. take i rest ++ x) (drop_more rest i (term 0 []) found.0)
@@ -139,7 +139,7 @@ module _ (G : Ground) (D : Split) (rows : List Row) (sound : SoundTable (setting
     t_there = Memᴰ.append_right fine' (Memᴰ.head refl)
 
     div : Involutive D (leaders T) (suc k) (exponents t)
-    div = divisor_yes k r found.2.inside is-r (exponents t) (here.written.over t t_there).1.wide (found.2.divides r is-r)
+    div = divisor_yes k r found.2.inside is_r (exponents t) (here.written.over t t_there).1.wide (found.2.divides r is_r)
 
     abbrev l : Term
     l = (first_of (terms_of r) at_row.good.monic).0
@@ -148,13 +148,13 @@ module _ (G : Ground) (D : Split) (rows : List Row) (sound : SoundTable (setting
     tail = drop 1 (terms_of r)
 
     is : row T (suc k) ≡ l ∷ tail
-    is = row_is k r found.2.inside is-r ∙ split k r found.2.inside is-r
+    is = row_is k r found.2.inside is_r ∙ split k r found.2.inside is_r
 
     W : Written F O n (l ∷ tail)
-    W = subst (Written F O n) (split k r found.2.inside is-r) at_row.good.acceptable.written
+    W = subst (Written F O n) (split k r found.2.inside is_r) at_row.good.acceptable.written
 
     monic : l.coefficient ≡ 1
-    monic = sym (ap leading_coefficient (split k r found.2.inside is-r)) ∙ at_row.good.monic
+    monic = sym (ap leading_coefficient (split k r found.2.inside is_r)) ∙ at_row.good.monic
 
     action : Action G D T fine' t (drop (i + 1) rest) (suc k) l tail
     action = Standing.action G D T room here (suc k) l tail div is W monic
@@ -166,10 +166,10 @@ module _ (G : Ground) (D : Split) (rows : List Row) (sound : SoundTable (setting
     M = scaled F t.coefficient a tail
 
     shift_is : a ≡ quotient (exponents t) (exponents l)
-    shift_is = ap (λ u. quotient (exponents t) u) (at_row.lead ∙ ap leading (split k r found.2.inside is-r))
+    shift_is = ap (λ u. quotient (exponents t) u) (at_row.lead ∙ ap leading (split k r found.2.inside is_r))
 
-    MIs : M ≡ scaled F t.coefficient (quotient (exponents t) (exponents l)) tail
-    MIs = ap (λ u. scaled F t.coefficient u tail) shift_is
+    m_is : M ≡ scaled F t.coefficient (quotient (exponents t) (exponents l)) tail
+    m_is = ap (λ u. scaled F t.coefficient u tail) shift_is
 
     -- what the code's subtraction says of this turn
     abbrev Cancels : ℕ → Poly → Result (Unit {0}) Reason → Poly → Type 0
@@ -183,7 +183,7 @@ module _ (G : Ground) (D : Split) (rows : List Row) (sound : SoundTable (setting
         (here.written.nonzero t t_there) (here.written.over t t_there).0
         (subst (In n) (sym shift_is) (Acting.shift_in G action))
 
-    module _ (small : room ≤ most_terms) (is-most : most ≡ min room most_terms) (len : ℕ) (is-len : len ≡ length fine') (behind : Poly) (is-behind : behind ≡ drop (i + 1) rest) where
+    module _ (small : room ≤ most_terms) (is_most : most ≡ min room most_terms) (len : ℕ) (is_len : len ≡ length fine') (behind : Poly) (is_behind : behind ≡ drop (i + 1) rest) where
       abbrev free : ℕ
       free = min (most - len) most_terms
 
@@ -192,15 +192,15 @@ module _ (G : Ground) (D : Split) (rows : List Row) (sound : SoundTable (setting
 
       pub act : (u : Unit {0}) (g new : Poly) → new ≡ g → Cancels free behind (Ok u) g → At h fine' new (turn + 1)
       act u g new e s =
-          let x = subtracted free behind (Ok u) g is-behind s in
+          let x = subtracted free behind (Ok u) g is_behind s in
           let q = x.2 in
           subst (λ y. At h fine' y (turn + 1)) (sym e) (subst (At h fine' g) (sym (add-one turn))
-          (Standing.acted G D T room here action g (subst Fits MIs x.0) (subst (λ m. Differs F O n (drop (i + 1) rest) m g) MIs x.1) (omega (arith, length-append fine' g, exact))))
+          (Standing.acted G D T room here action g (subst Fits m_is x.0) (subst (λ m. Differs F O n (drop (i + 1) rest) m g) m_is x.1) (omega (arith, length-append fine' g, exact))))
 
       stopped : (why : Reason) (g : Poly) → Subtracted F O n free (drop (i + 1) rest) M (Err why) g → Reduces F O D n T room h (refused (refuse (number why) (suc k)))
-      stopped TooWide g s = Standing.too_wide G D T room here action (λ f. s (subst Fits (sym MIs) f))
+      stopped TooWide g s = Standing.too_wide G D T room here action (λ f. s (subst Fits (sym m_is) f))
       stopped Long g (e, (f, d, q)) =
-          Standing.too_long G D T room here action f (subst Fits MIs e) (subst (λ m. Differs F O n (drop (i + 1) rest) m f) MIs d) (omega (arith, length-append fine' f, exact))
+          Standing.too_long G D T room here action f (subst Fits m_is e) (subst (λ m. Differs F O n (drop (i + 1) rest) m f) m_is d) (omega (arith, length-append fine' f, exact))
 
       pub stop : (why : Reason) (g : Poly) → Cancels free behind (Err why) g → Reduces F O D n T room h (refused (refuse (number why) (k + 1)))
-      stop why g s = subst (λ j. Reduces F O D n T room h (refused (refuse (number why) j))) (sym (add-one k)) (stopped why g (subtracted free behind (Err why) g is-behind s))
+      stop why g s = subst (λ j. Reduces F O D n T room h (refused (refuse (number why) j))) (sym (add-one k)) (stopped why g (subtracted free behind (Err why) g is_behind s))

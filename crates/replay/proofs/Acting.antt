@@ -5,7 +5,7 @@ use Rattle.std.proofs.lemmas.Bool.{cond-true, lt-ltb}
 use mathlib.Core.Bool.{false≢true}
 use Rattle.involutive.specs.Reduction.{Refusal}
 use Rattle.replay.specs.declared.command.Command.{Command}
-use Rattle.replay.specs.declared.command.Command.TheVariants.{Term as Command-as-Term}
+use Rattle.replay.specs.declared.command.Command.TheVariants.{Term as CommandTerm}
 use Rattle.replay.specs.Grammar.{byte_of, operands_of}
 use Rattle.replay.specs.Words.{word, term_of, gather, answered, shown, copied, stepped}
 use Rattle.polynomial.specs.Polynomial.{Poly, term}
@@ -27,7 +27,7 @@ module _ {S : Setting} {s : State} {g : Poly} {at : ℕ} {before after : List �
   pub acts_term : {ops : List ℕ} {g' : Poly} → g' ≡ gather g (term_of ops) → after ≡ before → Acts S s g at 1 ops s g' before after
   acts_term {ops = ops} {g' = g'} e t log = record { text = []; bytes = t ∙ sym (append-nil before); is_so = (log, subst (λ h. Does S s log g at 1 ops s log h []) (sym e) gathers) }
 
-  pub acts_term_of : {o : Bor (List ℕ)} {k : Command} {g' : Poly} → k ≡ Command-as-Term o → g' ≡ gather g (term_of o.now) → after ≡ before → Acts S s g at (byte_of k) (operands_of k) s g' before after
+  pub acts_term_of : {o : Bor (List ℕ)} {k : Command} {g' : Poly} → k ≡ CommandTerm o → g' ≡ gather g (term_of o.now) → after ≡ before → Acts S s g at (byte_of k) (operands_of k) s g' before after
   acts_term_of {o = o} {g' = g'} e q t = subst (λ k. Acts S s g at (byte_of k) (operands_of k) s g' before after) (sym e) (acts_term {ops = o.now} q t)
 
   pub acts_add : {f g' : Poly} {r : Answer} {s' : State} → f ≡ g → g' ≡ [] → after ≡ before ++ answered at 2 r → Adds S s f r s' → Acts S s g at 2 [] s' g' before after

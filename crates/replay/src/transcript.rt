@@ -1,6 +1,6 @@
 // A whole command file and its transcript.
 ghost use Rattle.std.specs.Prelude.{◌≡◌, ◌≤◌, length, take, drop, IfOk, OnOk};
-ghost use Rattle.involutive.specs.Complete.{CompleteTables, Verdict as Verdict-told};
+ghost use Rattle.involutive.specs.Complete.{CompleteTables, Verdict as VerdictTold};
 ghost use Rattle.involutive.specs.Facts.{FactsHold};
 ghost use Rattle.involutive.specs.Once.{OneAnswerEach};
 ghost use Rattle.involutive.specs.Sound.{SoundnessKept};
@@ -84,7 +84,7 @@ pub fn transcript(heap: Global, input: &[u8]) -> Result<Vec<u8>, AllocError>
     ensures transcript { IfOk result (λ out. Transcript (take most_input input.now) out.items) }
     ensures one { OneTranscript }
     ensures complete { CompleteTables }
-    ensures verdict { Verdict-told }
+    ensures verdict { VerdictTold }
     ensures sound { SoundnessKept }
     ensures answers { OneAnswerEach }
     ensures facts { FactsHold }

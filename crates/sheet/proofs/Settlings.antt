@@ -14,7 +14,7 @@ use Rattle.involutive.proofs.Soundness
 use Rattle.calls.specs.declared.refusal.Refusal.TheVariants.{Full}
 use Rattle.reduction.specs.declared.table.Row.{Row}
 use Rattle.reduction.specs.Table.{terms_of, SoundTable}
-use Rattle.sheet.specs.declared.settle.Settled.TheVariants.{Nothing, Appended as Settled-as-Appended}
+use Rattle.sheet.specs.declared.settle.Settled.TheVariants.{Nothing, Appended as SettledAppended}
 use Rattle.sheet.specs.Marks.{marked, state_of}
 use Rattle.sheet.specs.Rows.{Appended}
 use Rattle.sheet.specs.Settling.{Settles, nothing, full, appends}
@@ -49,7 +49,7 @@ module _ (S : Setting) (W : Lawful S) (rows new : List Row) (xs ys : List (List 
       let k = length-map rows terms_of in
       full R (omega (arith, l, m, k, e))
 
-  pub settle_appends : (g : Poly) (len : ℕ) → len ≡ length rows → 0 < length g → ((k v : ℕ) → marked ys k v ≡ false) → ReducesTo S s most_terms h (left g) → Says g true len → Settles S s h (Ok Settled-as-Appended) (state_of new ys) × SoundTable S new
+  pub settle_appends : (g : Poly) (len : ℕ) → len ≡ length rows → 0 < length g → ((k v : ℕ) → marked ys k v ≡ false) → ReducesTo S s most_terms h (left g) → Says g true len → Settles S s h (Ok SettledAppended) (state_of new ys) × SoundTable S new
   settle_appends [] len e p m R E = absurd (omega (arith, p))
   settle_appends (t ∷ g) len e p m R E =
       let w = (Soundness.reduces_acceptable S W R a).0 in
@@ -59,7 +59,7 @@ module _ (S : Setting) (W : Lawful S) (rows new : List Row) (xs ys : List (List 
       let k = length-map rows terms_of in
       let A : Appended S.division (made (t ∷ g)) (leading (made (t ∷ g))) rows new = subst (λ x. Appended S.division (made (t ∷ g)) x rows new) (sym (Soundness.monic_leads S W t g w)) b.1 in
       let q : with_row S s (t ∷ g) ≡ state_of new ys = λ i. record { rows = sym A.terms i; marks = λ k v. sym (m k v) i } in
-      (subst (Settles S s h (Ok Settled-as-Appended)) q (appends R (omega (arith, l, k, e))), stands S W.division rows new (made (t ∷ g)) I A G)
+      (subst (Settles S s h (Ok SettledAppended)) q (appends R (omega (arith, l, k, e))), stands S W.division rows new (made (t ∷ g)) I A G)
 
 -- the same of a polynomial that was loaded
 pub at_rows_loaded : {S : Setting} {slice rows : List Row} (xs : List (List Bool)) {h f : Poly} {o : Outcome} → slice ≡ rows → h ≡ f → SoundTable S rows → Acceptable S.field S.order S.variables f →

@@ -89,15 +89,15 @@ module _ (O : Compare) (Q : OrderLaws O) (n N : ℕ) (xs : List (List Bool)) (le
   abbrev pub Opens : ℕ → ℕ → Type 0
   Opens j u = is_open (lead j) xs j u ≡ true
 
-  abbrev pub Height : ℕ → ℕ → List ℕ
-  Height j u = raised (lead j) u
+  abbrev pub height_of : ℕ → ℕ → List ℕ
+  height_of j u = raised (lead j) u
 
   -- the pairs before variable v of row k
   abbrev pub Before : ℕ → ℕ → ℕ → ℕ → Type 0
   Before k v j u = Within j N × Within u n × ((j < k) ⊎ ((j ≡ k) × (u < v)))
 
   abbrev pub Found : ℕ → ℕ → ℕ → Option Pick → Type 0
-  Found k v top best = Holds O Q Opens Height (Before k v) top best
+  Found k v top best = Holds O Q Opens height_of (Before k v) top best
 
   next_row : (k v j u : ℕ) → suc n ≤ v → Before k v j u → Before (suc k) 1 j u
   next_row k v j u h (a, b, c) = (a, b, inl (⊎_elim (λ x. omega arith) (λ x. let y = x.0 in omega arith) c))
@@ -112,10 +112,10 @@ module _ (O : Compare) (Q : OrderLaws O) (n N : ℕ) (xs : List (List Bool)) (le
   earlier k v j u (a, b, c) = ⊎_elim (λ x. inl (a, b, inl x)) (λ x. ⊎_elim (λ e. inr (x.0, e)) (λ d. inl (a, b, inr (x.0, omega arith))) (cases_eq u v)) c
 
   pub scan_found : (k v m : ℕ) → Within k N → 1 ≤ v → v + m ≡ suc n → (best : Option Pick) → Found k v k best → Found (suc k) 1 k (scanned O (lead k) xs k v m best)
-  scan_found k v zero w a e best B = move O Q Opens Height (Before k v) (Before (suc k) 1) k k (λ j u s. next_row k v j u (omega arith) s) (λ j u s. same_row k v j u (omega arith) s) (omega arith) best B
+  scan_found k v zero w a e best B = move O Q Opens height_of (Before k v) (Before (suc k) 1) k k (λ j u s. next_row k v j u (omega arith) s) (λ j u s. same_row k v j u (omega arith) s) (omega arith) best B
   scan_found k v (suc m) w a e best B =
       scan_found k (suc v) m w (omega arith) (omega arith) (consider O (lead k) xs k v best)
-      (turn O Q Opens Height (Before k v) (Before k (suc v)) k v (later k v) (earlier k v) (w, (a, omega arith), inr (refl, omega arith)) (λ j u s. wide j u s.0 s.1) best (is_open (lead k) xs k v) (λ t. t) (λ t o. both_ways (is_open (lead k) xs k v) t o) B)
+      (turn O Q Opens height_of (Before k v) (Before k (suc v)) k v (later k v) (earlier k v) (w, (a, omega arith), inr (refl, omega arith)) (λ j u s. wide j u s.0 s.1) best (is_open (lead k) xs k v) (λ t. t) (λ t o. both_ways (is_open (lead k) xs k v) t o) B)
 
   pub choose_found : (rows : List Row) (k : ℕ) → 1 ≤ k → k + length rows ≡ suc N → ((i : ℕ) (r : Row) → i < length rows → r ≡ get_or rows i r → r.lead ≡ lead (k + i)) → (best : Option Pick) → Found k 1 k best → Found (suc N) 1 (suc N) (chosen O n xs rows k best)
   choose_found [] k a e same best B = let z : k ≡ suc N = omega arith in subst (λ x. Found x 1 x best) z B
@@ -124,4 +124,4 @@ module _ (O : Compare) (Q : OrderLaws O) (n N : ℕ) (xs : List (List Bool)) (le
       let l : r.lead ≡ lead k = same 0 r (omega arith) refl ∙ ap lead z in
       let s : Found (suc k) 1 k (scanned O r.lead xs k 1 n best) = subst (λ x. Found (suc k) 1 k (scanned O x xs k 1 n best)) (sym l) (scan_found k 1 n (a, omega arith) (omega arith) (omega arith) best B) in
       choose_found rows (suc k) (omega arith) (omega arith) (λ i x h d. let y : k + suc i ≡ suc k + i = omega arith in same (suc i) x (omega arith) d ∙ ap lead y) (scanned O r.lead xs k 1 n best)
-      (move O Q Opens Height (Before (suc k) 1) (Before (suc k) 1) k (suc k) (λ j u x. x) (λ j u x. x) (omega arith) (scanned O r.lead xs k 1 n best) s)
+      (move O Q Opens height_of (Before (suc k) 1) (Before (suc k) 1) k (suc k) (λ j u x. x) (λ j u x. x) (omega arith) (scanned O r.lead xs k 1 n best) s)

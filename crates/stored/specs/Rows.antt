@@ -31,8 +31,8 @@ Fails comes Memory = Unit {0}
 
 module _ (F : FieldMeaning) (O : Compare) (n : ℕ) (rest : List ℕ) (offset : ℕ) (before after : Rows) where
   -- the row f was read and appended
-  pub record Appended (f : Poly) (behind-it : List ℕ) : Type 0 where
-    pub run : IsRun rest f (2 ∷ behind-it)
+  pub record Appended (f : Poly) (behind_it : List ℕ) : Type 0 where
+    pub run : IsRun rest f (2 ∷ behind_it)
     pub fine : row_fault F O n (exponents_of (vec_items before.leaders)) f ≡ None
     pub terms : polys (vec_items after.terms) ≡ polys (vec_items before.terms) ++ (f ∷ [])
     pub leaders : exponents_of (vec_items after.leaders) ≡ exponents_of (vec_items before.leaders) ++ (leading f ∷ [])
