@@ -2,6 +2,7 @@
 //
 // term     a coefficient and a monomial
 // refusal  why a polynomial that is handed over is refused
+// ring     a field, an order and a number of variables
 // check    the checks on a polynomial that is handed over
 // bytes    reading and writing terms as bytes
 #![tactic(auto)]
@@ -9,6 +10,7 @@
 pub mod bytes;
 pub mod check;
 pub mod refusal;
+pub mod ring;
 pub mod term;
 #[cfg(test)]
 mod tests;
