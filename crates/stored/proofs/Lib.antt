@@ -1,5 +1,2 @@
-pub mod Texts
 pub mod Records
 pub mod Rowing
-pub mod Reading
-pub mod Showing

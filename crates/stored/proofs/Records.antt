@@ -6,6 +6,7 @@ use Rattle.polynomial.specs.declared.bytes.NoRun.TheVariants.{Cut, Memory as NoM
 use Rattle.polynomial.specs.Polynomial.{Poly}
 use Rattle.polynomial.specs.Bytes.{poly_bytes}
 use Rattle.polynomial.specs.Reading.{IsRun, IsCut, ReadsRun}
+use Rattle.stored.specs.declared.rest.Rest.{Rest}
 use Rattle.stored.specs.declared.fault.Reason.TheVariants.{OpenRecord, OtherByte}
 use Rattle.stored.specs.Stored.{NoRecord, cut, open_end, other}
 use Rattle.stored.specs.Record.{ReadsRecord, WithinFile, fault_of}
@@ -20,19 +21,12 @@ pub within_file : (bytes : List ℕ) (offset : ℕ) (why : NoRun) → offset + l
 within_file bytes offset (Cut k) l h = omega (arith, cut_within bytes k h)
 within_file bytes offset NoMemory l h = tt
 
-pub no_run : (bytes : List ℕ) (offset : ℕ) (why : NoRun) → ReadsRun bytes (Err why) → ReadsRecord bytes offset (Err (fault_of why offset))
-no_run bytes offset (Cut k) h = (k, refl, cut h)
-no_run bytes offset NoMemory h = tt
+pub no_run : (rest : Rest) (why : NoRun) → ReadsRun rest.bytes.now (Err why) → ReadsRecord rest (Err (fault_of why rest.offset))
+no_run rest (Cut k) h = (k, refl, cut h)
+no_run rest NoMemory h = tt
 
--- what stands behind the run
-pub closed_run : (bytes rest behind : List ℕ) (f : Poly) → IsRun bytes f rest → 1 ≤ length rest → get_or rest 0 0 ≡ 2 → behind ≡ take (length rest - 1) (drop 1 rest) → IsRun bytes f (2 ∷ behind)
-closed_run bytes [] behind f h l e b = absurd (omega arith)
-closed_run bytes (x ∷ rest) behind f h l e b =
-    let z : x ∷ rest ≡ 2 ∷ behind = cc (take_rest (x ∷ rest) 1) in
-    subst (IsRun bytes f) z h
-
-pub open_run : (bytes rest : List ℕ) (f : Poly) → IsRun bytes f rest → length rest ≤ 0 → NoRecord bytes OpenRecord (length bytes)
-open_run bytes [] f h l = open_end h
+pub open_run : (bytes rest : List ℕ) (f : Poly) → IsRun bytes f rest → length rest ≤ 0 → NoRecord bytes OpenRecord (length bytes - length rest)
+open_run bytes [] f h l = let e : length bytes ≡ length bytes - 0 = omega arith in subst (NoRecord bytes OpenRecord) e (open_end h)
 open_run bytes (x ∷ rest) f h l = absurd (omega arith)
 
 pub other_run : (bytes rest : List ℕ) (f : Poly) → IsRun bytes f rest → 1 ≤ length rest → (get_or rest 0 0 ≡ 2 → ⊥) → NoRecord bytes OtherByte (length bytes - length rest)

@@ -1,7 +1,11 @@
 -- What is wrong with a stored table, in words.
-use Rattle.std.specs.Prelude.{ℕ, List, codes}
+use Rattle.std.specs.Prelude.{ℕ, List, ◌++◌, codes, decimal}
+use Rattle.choice.specs.declared.unnamed.Unnamed.{Unnamed}
+use Rattle.choice.specs.declared.unnamed.Unnamed.TheVariants.{Field, Variables, Order, Division}
 use Rattle.polynomial.specs.declared.refusal.Refusal.{Refusal}
 use Rattle.polynomial.specs.declared.refusal.Refusal.TheVariants.{TooManyTerms, Coefficient, Exponent, NotFalling}
+use Rattle.stored.specs.declared.fault.Fault.{Fault}
+use Rattle.stored.specs.declared.fault.Fault.TheVariants.{Bad, Memory}
 use Rattle.stored.specs.declared.fault.Reason.{Reason}
 use Rattle.stored.specs.declared.fault.Reason.TheVariants.{NoSheet, NoField, NoVariables, NoOrder, NoDivision, CutTerm, OpenRecord, OtherByte, TooManyRows, Refused, Zero, NotMonic, Repeated}
 
@@ -25,3 +29,15 @@ reason_text (Refused r) = refusal_text r
 reason_text Zero = codes "row without terms"
 reason_text NotMonic = codes "leading coefficient is not 1"
 reason_text Repeated = codes "leading monomial of an earlier row"
+
+-- the reason and its offset
+abbrev pub fault_text : Fault → List ℕ
+fault_text (Bad why at) = reason_text why ++ (codes ", at offset " ++ decimal at)
+fault_text Memory = codes "no memory for the table"
+
+-- where the sheet command stops making sense
+abbrev pub unnamed_fault : Unnamed → Fault
+unnamed_fault Field = Bad NoField 1
+unnamed_fault Variables = Bad NoVariables 4
+unnamed_fault Order = Bad NoOrder 5
+unnamed_fault Division = Bad NoDivision 6

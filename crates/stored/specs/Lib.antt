@@ -3,4 +3,3 @@ pub mod Text
 pub mod Stored
 pub mod Record
 pub mod Rows
-pub mod Show

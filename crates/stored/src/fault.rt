@@ -1,8 +1,15 @@
 // What is wrong with a stored table.
-ghost use Rattle.std.specs.Prelude.{◌≡◌};
-ghost use Rattle.stored.specs.Faults.{reason_text, refusal_text};
+ghost use Rattle.std.specs.Prelude.{◌≡◌, Some as the, codes};
+ghost use Rattle.choice.specs.declared.unnamed.Unnamed.{Unnamed};
+ghost use Rattle.stored.specs.declared.fault.Fault.TheVariants.{Memory};
+ghost use Rattle.stored.specs.declared.fault.Reason.TheVariants.{Refused};
+ghost use Rattle.stored.specs.Faults.{fault_text, reason_text, refusal_text, unnamed_fault};
 
+use choice::unnamed::Unnamed;
 use polynomial::refusal::Refusal;
+use std::alloc::{AllocError, AllocFailed};
+use std::error::Error;
+use std::fmt;
 
 #[derive(Clone, Copy, PartialEq, Eq, Debug)]
 pub enum Reason {
@@ -42,12 +49,49 @@ pub enum Fault {
     Memory,
 }
 
-impl Reason {
-    // What is wrong, in words.
-    pub fn describe(&self) -> &'static str
-        ensures { result.now ≡ reason_text self.now }
-    {
-        match self {
+impl From<Refusal> for Reason {
+    ghost from_gives = { λ refusal reason. reason ≡ Refused refusal };
+
+    fn from(refusal: Refusal) -> Reason {
+        Reason::Refused(refusal)
+    }
+}
+
+// The offset is that of the first operand by which the missing thing is named.
+impl From<Unnamed> for Fault {
+    ghost from_gives = { λ unnamed fault. fault ≡ unnamed_fault unnamed };
+
+    fn from(unnamed: Unnamed) -> Fault {
+        match unnamed {
+            Unnamed::Field => Fault::Bad(Reason::NoField, 1),
+            Unnamed::Variables => Fault::Bad(Reason::NoVariables, 4),
+            Unnamed::Order => Fault::Bad(Reason::NoOrder, 5),
+            Unnamed::Division => Fault::Bad(Reason::NoDivision, 6),
+        }
+    }
+}
+
+impl<T: Drop> From<AllocFailed<T>> for Fault {
+    ghost from_gives = { λ _ fault. fault ≡ Memory };
+
+    fn from(_failed: AllocFailed<T>) -> Fault {
+        Fault::Memory
+    }
+}
+
+impl From<AllocError> for Fault {
+    ghost from_gives = { λ _ fault. fault ≡ Memory };
+
+    fn from(_error: AllocError) -> Fault {
+        Fault::Memory
+    }
+}
+
+impl fmt::Display for Reason {
+    ghost output = { λ reason. the (reason_text reason) };
+
+    fn fmt<W: fmt::Write>(&self, f: &mut fmt::Formatter<W>) -> fmt::Result {
+        f.write_str(match self {
             Reason::NoSheet => "no whole sheet command",
             Reason::NoField => "no such field",
             Reason::NoVariables => "not 1 to 6 variables",
@@ -57,15 +101,16 @@ impl Reason {
             Reason::OpenRecord => "file ends inside a record",
             Reason::OtherByte => "neither 01 nor 02",
             Reason::TooManyRows => "more than 32 rows",
-            Reason::Refused(refusal) => describe_refusal(refusal),
+            Reason::Refused(refusal) => refusal_words(refusal),
             Reason::Zero => "row without terms",
             Reason::NotMonic => "leading coefficient is not 1",
             Reason::Repeated => "leading monomial of an earlier row",
-        }
+        })
     }
 }
 
-fn describe_refusal(refusal: &Refusal) -> &'static str
+// A refusal is another crate's, so that it can have no Display here.
+fn refusal_words(refusal: &Refusal) -> &'static str
     ensures { result.now ≡ refusal_text refusal.now }
 {
     match refusal {
@@ -75,3 +120,16 @@ fn describe_refusal(refusal: &Refusal) -> &'static str
         Refusal::NotFalling(_) => "term does not fall",
     }
 }
+
+impl fmt::Display for Fault {
+    ghost output = { λ fault. the (fault_text fault) };
+
+    fn fmt<W: fmt::Write>(&self, f: &mut fmt::Formatter<W>) -> fmt::Result {
+        match self {
+            Fault::Bad(reason, offset) => write!(f, "{reason}, at offset {offset}"),
+            Fault::Memory => write!(f, "no memory for the table"),
+        }
+    }
+}
+
+impl Error for Fault {}

@@ -2,11 +2,14 @@
 //
 // fault    what is wrong with a stored table
 // record   the records of a stored table
+// rest     what is left of a file
+// row      a row of a stored table
+// rows     the rows of its records
 // text     a table as people write it
 #![tactic(auto)]
 
 pub mod fault;
 mod record;
+mod rest;
+mod row;
 mod rows;
-pub mod show;
-mod text;

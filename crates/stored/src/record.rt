@@ -1,10 +1,19 @@
 // The records of a stored table: a row's terms, closed by 02.
-ghost use Rattle.std.specs.Prelude.{◌≡◌, ◌+◌, ◌^◌, ◌<◌, length};
+ghost use Rattle.std.specs.Prelude.{◌≡◌};
 ghost use Rattle.stored.specs.Record.{ReadsRecord, WithinFile, fault_of};
 
 use crate::fault::{Fault, Reason};
+use crate::rest::Rest;
 use polynomial::bytes::{NoRun, Run, read_run};
+use polynomial::term::Term;
 use std::alloc::Global;
+
+// A record's terms, and what is left of the file behind it.
+#[derive(Drop)]
+pub(crate) struct Record<'a> {
+    pub(crate) terms: Vec<Term>,
+    pub(crate) behind: Rest<'a>,
+}
 
 // What is wrong where no run of terms stands at that offset.
 fn run_fault(why: NoRun, offset: usize) -> Fault
@@ -17,20 +26,25 @@ fn run_fault(why: NoRun, offset: usize) -> Fault
     }
 }
 
-// The record at the front of the input, which stands at that offset of the file, and the bytes behind it.
-pub(crate) fn read_record(heap: Global, input: &[u8], offset: usize) -> Result<Run<'_>, Fault>
-    requires { offset + length input.now < 2 ^ 64 }
-    ensures { ReadsRecord input.now offset result }
+// The record at the front.
+pub(crate) fn read_record(heap: Global, rest: Rest<'_>) -> Result<Record<'_>, Fault>
+    ensures { ReadsRecord rest.entry result }
 {
-    match read_run(heap, input) {
-        Ok(Run { terms, rest }) => match rest {
-            [0x02, behind @ ..] => Ok(Run {
-                terms,
-                rest: behind,
-            }),
-            [] => Err(Fault::Bad(Reason::OpenRecord, offset + input.len())),
-            [_, ..] => Err(Fault::Bad(Reason::OtherByte, offset + (input.len() - rest.len()))),
-        },
-        Err(why) => Err(run_fault(why, offset)),
+    let run = match read_run(heap, rest.bytes) {
+        Ok(run) => run,
+        Err(why) => return Err(run_fault(why, rest.offset)),
+    };
+    let Run { terms, rest: end } = run;
+    let offset = rest.offset + (rest.bytes.len() - end.len());
+    match end {
+        [0x02, bytes @ ..] => {
+            let behind = Rest {
+                bytes,
+                offset: offset + 1,
+            };
+            Ok(Record { terms, behind })
+        }
+        [] => Err(Fault::Bad(Reason::OpenRecord, offset)),
+        [_, ..] => Err(Fault::Bad(Reason::OtherByte, offset)),
     }
 }

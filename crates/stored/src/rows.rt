@@ -1,74 +1,66 @@
 // The rows of a stored table: its records, each checked behind those before it.
-ghost use Rattle.std.specs.Prelude.{◌≡◌, ◌+◌, ◌^◌, ◌<◌, [], length};
-ghost use Rattle.monomial.specs.Lists.{exponents_of};
-ghost use Rattle.stored.specs.Stored.{among, behind, leading_fault, row_fault, Reads};
-ghost use Rattle.stored.specs.Rows.{IsRow, AppendsRow, ReadsRows};
+ghost use Rattle.std.specs.Prelude.{◌≡◌, ◌+◌, ◌^◌, ◌<◌, [], map, vec_items};
+ghost use Rattle.std.specs.List.{list_any};
+ghost use Rattle.monomial.specs.Monomial.{same};
+ghost use Rattle.polynomial.specs.Polynomial.{leading};
+ghost use Rattle.stored.specs.Stored.{behind, leading_fault, row_fault, Reads};
+ghost use Rattle.stored.specs.Record.{file_length};
+ghost use Rattle.stored.specs.Rows.{IsFine, IsRow, ReadsRow, ReadsRows, polys};
 
 use crate::fault::{Fault, Reason};
-use crate::record::read_record;
+use crate::record::{Record, read_record};
+use crate::rest::Rest;
+use crate::row::Row;
 use field::Field;
 use monomial::Monomial;
 use monomial::order::Order;
-use polynomial::bytes::{Run, TERM_BYTES};
+use polynomial::bytes::TERM_BYTES;
 use polynomial::check::check;
+use polynomial::ring::Ring;
 use polynomial::term::Term;
 use std::alloc::Global;
 
 // The most rows of a table.
 const MOST_ROWS: usize = 32;
 
-// Rows and their leading monomials.
-#[derive(Drop)]
-pub(crate) struct Rows {
-    pub(crate) terms: Vec<Vec<Term>>,
-    pub(crate) leaders: Vec<Monomial>,
+// Whether a row leads with the monomial.
+fn has_leader(rows: &[Row], monomial: &Monomial) -> bool
+    ensures { result ≡ list_any (λ row. same (leading (vec_items row.terms)) monomial.now.exponents) rows.now }
+{
+    rows.iter().any(|row| row.leader().is_same(monomial))
 }
 
-fn is_among(monomial: &Monomial, list: &[Monomial]) -> bool
-    ensures { result ≡ among monomial.now.exponents (exponents_of list.now) }
+// Whether a polynomial leads with coefficient 1 and a monomial that no row before it leads with.
+#[tactic(auto, using(crate::proofs::Rowing::among_any))]
+fn check_leader(before: &[Row], terms: &[Term]) -> Result<(), Reason>
+    ensures { IsFine (leading_fault (map leading (polys before.now)) terms.now) result }
 {
-    for member in list {
-        if member.is_same(monomial) {
-            return true;
-        }
-    }
-    false
-}
-
-// The leading monomial of a polynomial that leads with coefficient 1 and a monomial that is not among those.
-fn check_leader(leaders: &[Monomial], terms: &[Term]) -> Result<Monomial, Reason>
-    ensures { IsRow (leading_fault (exponents_of leaders.now) terms.now) terms.now result }
-{
-    if terms.is_empty() {
+    let Some(first) = terms.first() else {
         return Err(Reason::Zero);
-    }
-    let first = terms[0];
+    };
     if first.coefficient != 1 {
         return Err(Reason::NotMonic);
     }
-    if is_among(&first.monomial, leaders) {
+    if has_leader(before, &first.monomial) {
         return Err(Reason::Repeated);
     }
-    Ok(first.monomial)
+    Ok(())
 }
 
-// The leading monomial of a record's polynomial, where it is a row behind rows with those leading monomials.
+// The row that a record's polynomial is, behind the rows before it.
 fn check_row<F: Field, O: Order>(
-    field: &F,
-    order: &O,
-    variables: usize,
-    leaders: &[Monomial],
-    terms: &[Term],
-) -> Result<Monomial, Reason>
-    ensures { IsRow (row_fault (F.Field.meaning field.now) (O.Order.meaning order.now) variables (exponents_of leaders.now) terms.now) terms.now result }
+    ring: &Ring<F, O>,
+    before: &[Row],
+    terms: Vec<Term>,
+) -> Result<Row, Reason>
+    ensures { IsRow (row_fault (F.Field.meaning ring.now.field) (O.Order.meaning ring.now.order) ring.now.variables (map leading (polys before.now)) terms.items) terms.items result }
 {
-    if leaders.len() >= MOST_ROWS {
+    if before.len() >= MOST_ROWS {
         return Err(Reason::TooManyRows);
     }
-    match check(field, order, variables, terms) {
-        Ok(()) => check_leader(leaders, terms),
-        Err(refusal) => Err(Reason::Refused(refusal)),
-    }
+    check(&ring.field, &ring.order, ring.variables, &terms)?;
+    check_leader(before, &terms)?;
+    Ok(Row { terms })
 }
 
 // Where in the file a fault of the record at that offset stands.
@@ -82,69 +74,45 @@ fn place_fault(why: Reason, offset: usize) -> usize
     }
 }
 
-// Reads the row at the front of the bytes, which stand at that offset, and appends it; the bytes behind it.
+// A row, and what is left of the file behind it.
+#[derive(Drop)]
+struct Found<'a> {
+    row: Row,
+    behind: Rest<'a>,
+}
+
+// The row at the front, behind the rows before it; nothing at the end of the file.
 fn read_row<'a, F: Field, O: Order>(
     heap: Global,
-    field: &F,
-    order: &O,
-    variables: usize,
-    rest: &'a [u8],
-    offset: usize,
-    rows: &mut Rows,
-) -> Result<&'a [u8], Fault>
-    requires { offset + length rest.now < 2 ^ 63 }
-    ensures { AppendsRow (F.Field.meaning field.now) (O.Order.meaning order.now) variables rest.now offset rows.old rows.new result }
+    ring: &Ring<F, O>,
+    before: &[Row],
+    rest: Rest<'a>,
+) -> Result<Option<Found<'a>>, Fault>
+    ensures { ReadsRow (F.Field.meaning ring.now.field) (O.Order.meaning ring.now.order) ring.now.variables (polys before.now) rest.entry result }
 {
-    let Run {
-        terms,
-        rest: behind,
-    } = match read_record(heap, rest, offset) {
-        Ok(run) => run,
-        Err(fault) => return Err(fault),
-    };
-    match check_row(
-        field,
-        order,
-        variables,
-        rows.leaders.as_slice(),
-        terms.as_slice(),
-    ) {
-        Ok(leader) => {
-            if rows.leaders.push(leader).is_err() {
-                return Err(Fault::Memory);
-            }
-            if rows.terms.push(terms).is_err() {
-                return Err(Fault::Memory);
-            }
-            Ok(behind)
-        }
-        Err(why) => Err(Fault::Bad(why, place_fault(why, offset))),
+    if rest.bytes.is_empty() {
+        return Ok(None);
+    }
+    let Record { terms, behind } = read_record(heap, rest)?;
+    match check_row(ring, before, terms) {
+        Ok(row) => Ok(Some(Found { row, behind })),
+        Err(why) => Err(Fault::Bad(why, place_fault(why, rest.offset))),
     }
 }
 
-// The rows of the input, which stands at that offset of the file and goes to its end.
+// The rows of the records that are left of a file.
 pub(crate) fn read_rows<F: Field, O: Order>(
     heap: Global,
-    field: &F,
-    order: &O,
-    variables: usize,
-    input: &[u8],
-    start: usize,
-) -> Result<Rows, Fault>
-    requires { start + length input.now < 2 ^ 63 }
-    ensures { ReadsRows (Reads (F.Field.meaning field.now) (O.Order.meaning order.now) variables (start + length input.now) [] input.now) result }
+    ring: &Ring<F, O>,
+    records: Rest<'_>,
+) -> Result<Vec<Row>, Fault>
+    ensures { ReadsRows (Reads (F.Field.meaning ring.now.field) (O.Order.meaning ring.now.order) ring.now.variables (file_length records.entry) [] records.entry.bytes.now) result }
 {
-    let mut rows = Rows {
-        terms: Vec::new(heap),
-        leaders: Vec::new(heap),
-    };
-    let mut rest = input;
-    while !rest.is_empty() {
-        let offset = start + (input.len() - rest.len());
-        match read_row(heap, field, order, variables, rest, offset, &mut rows) {
-            Ok(behind) => rest = behind,
-            Err(fault) => return Err(fault),
-        }
+    let mut rows = Vec::new(heap);
+    let mut rest = records;
+    while let Some(Found { row, behind }) = read_row(heap, ring, &rows, rest)? {
+        rows.push(row)?;
+        rest = behind;
     }
     Ok(rows)
 }

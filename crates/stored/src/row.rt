@@ -1,0 +1,22 @@
+// A row of a stored table.
+ghost use Rattle.std.specs.Prelude.{◌≡◌, ◌<◌, vec_items, vec_len};
+ghost use Rattle.polynomial.specs.Polynomial.{leading};
+
+use monomial::Monomial;
+use polynomial::term::Term;
+
+// A polynomial that is not zero.
+#[derive(Drop)]
+pub(crate) struct Row {
+    pub(crate) terms: Vec<Term>,
+    ghost leads: { 0 < vec_len terms },
+}
+
+impl Row {
+    // Its leading monomial.
+    pub(crate) fn leader(&self) -> Monomial
+        ensures { result.exponents ≡ leading (vec_items self.now.terms) }
+    {
+        self.terms[0].monomial
+    }
+}
