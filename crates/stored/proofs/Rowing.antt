@@ -1,6 +1,7 @@
 -- The rows of a stored table, one behind the other.
-use Rattle.std.proofs.Common.{◌≡◌, ℕ, suc, ◌+◌, ◌<◌, ◌≤◌, Bool, true, false, cond, ◌||◌, eqb, ltb, ◌⊎◌, List, [], ◌∷◌, ◌++◌, map, length, Some, None, vec_items, Option, sym, refl, ap, ◌∙◌, subst, inl, inr, arith, length-append}
+use Rattle.std.proofs.Common.{◌≡◌, ℕ, suc, ◌+◌, ◌-◌, ◌<◌, ◌≤◌, Bool, true, false, cond, ◌||◌, eqb, ltb, ◌⊎◌, List, [], ◌∷◌, ◌++◌, map, length, Some, None, Ok, Err, vec_items, Option, Result, sym, refl, ap, ◌∙◌, subst, inl, inr, arith, length-append}
 use Rattle.std.specs.List.{list_any}
+use Rattle.std.specs.Result.{IsErrAnd}
 use Rattle.std.proofs.lemmas.Bool.{cases_lt}
 use Rattle.field.specs.Field.{FieldMeaning}
 use Rattle.monomial.specs.Monomial.{same}
@@ -16,8 +17,12 @@ use Rattle.polynomial.proofs.Checking.{fault_long, fault_short}
 use Rattle.stored.specs.declared.fault.Reason.{Reason}
 use Rattle.stored.specs.declared.fault.Reason.TheVariants.{TooManyRows, Refused, Zero, NotMonic, Repeated}
 use Rattle.stored.specs.declared.row.Row.{Row}
-use Rattle.stored.specs.Stored.{Outcome, Reads, row, among, behind, leading_fault, after_checks, row_fault}
-use Rattle.stored.specs.Rows.{polys}
+use Rattle.stored.specs.declared.fault.Fault.{Fault}
+use Rattle.stored.specs.declared.fault.Fault.TheVariants.{Bad, Memory}
+use Rattle.stored.specs.declared.rest.Rest.{Rest}
+use Rattle.stored.specs.Record.{ReadsRecord, file_length}
+use Rattle.stored.specs.Stored.{Outcome, bad, Reads, row, no_row, no_record, among, behind, leading_fault, after_checks, row_fault}
+use Rattle.stored.specs.Rows.{polys, Fails}
 
 pub among_any : (m : List ℕ) (rs : List Row) → list_any (λ r. same (leading (vec_items r.terms)) m) rs ≡ among m (map leading (polys rs))
 among_any m [] = refl
@@ -74,3 +79,24 @@ row_shorter bytes more f h = omega (arith, ap length h.written, length-append (p
 pub row_comes : (F : FieldMeaning) (O : Compare) (n total : ℕ) (done : List Poly) (bytes more : List ℕ) (f g : Poly) → g ≡ f → IsRun bytes f (2 ∷ more) → row_fault F O n (map leading done) f ≡ None →
     (o : Outcome) → Reads F O n total (done ++ (g ∷ [])) more o → Reads F O n total done bytes o
 row_comes F O n total done bytes more f g e h k o r = row h k (subst (λ x. Reads F O n total (done ++ (x ∷ [])) more o) e r)
+
+-- what follows of an error follows of a result that is that error
+pub is_that_error : {X E : Type 0} (P : Result X E → Type 0) (r : Result X E) (e : E) → IsErrAnd r (λ x. x ≡ e) → P (Err e) → P r
+is_that_error P (Ok x) e h p = absurd h
+is_that_error P (Err y) e h p = subst (λ x. P (Err x)) (sym h) p
+
+-- a record that is none, or holds no row
+module _ (F : FieldMeaning) (O : Compare) (n : ℕ) (done : List Poly) (rest : Rest) where
+  bad_at : (why : Reason) (at k : ℕ) → at ≡ rest.offset + k → Reads F O n (file_length rest) done rest.bytes.now (bad why ((file_length rest - length rest.bytes.now) + k)) →
+      Reads F O n (file_length rest) done rest.bytes.now (bad why at)
+  bad_at why at k e h =
+      let z : (file_length rest - length rest.bytes.now) + k ≡ at = omega (arith, e) in
+      subst (λ x. Reads F O n (file_length rest) done rest.bytes.now (bad why x)) z h
+
+  pub record_fails : (e : Fault) → 0 < length rest.bytes.now → ReadsRecord rest (Err e) → Fails (Reads F O n (file_length rest) done rest.bytes.now) e
+  record_fails (Bad why at) some h = bad_at why at h.0 h.1 (no_record some h.2)
+  record_fails Memory some h = tt
+
+  pub row_fails : (why : Reason) (at : ℕ) (f : Poly) (more : List ℕ) → at ≡ rest.offset + behind why → IsRun rest.bytes.now f (2 ∷ more) → row_fault F O n (map leading done) f ≡ Some why →
+      Reads F O n (file_length rest) done rest.bytes.now (bad why at)
+  row_fails why at f more e h k = bad_at why at (behind why) e (no_row h k)

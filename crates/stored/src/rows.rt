@@ -15,7 +15,6 @@ use field::Field;
 use monomial::Monomial;
 use monomial::order::Order;
 use polynomial::bytes::TERM_BYTES;
-use polynomial::check::check;
 use polynomial::ring::Ring;
 use polynomial::term::Term;
 use std::alloc::Global;
@@ -31,7 +30,6 @@ fn has_leader(rows: &[Row], monomial: &Monomial) -> bool
 }
 
 // Whether a polynomial leads with coefficient 1 and a monomial that no row before it leads with.
-#[tactic(auto, using(crate::proofs::Rowing::among_any))]
 fn check_leader(before: &[Row], terms: &[Term]) -> Result<(), Reason>
     ensures { IsFine (leading_fault (map leading (polys before.now)) terms.now) result }
 {
@@ -58,7 +56,7 @@ fn check_row<F: Field, O: Order>(
     if before.len() >= MOST_ROWS {
         return Err(Reason::TooManyRows);
     }
-    check(&ring.field, &ring.order, ring.variables, &terms)?;
+    ring.check(&terms)?;
     check_leader(before, &terms)?;
     Ok(Row { terms })
 }
