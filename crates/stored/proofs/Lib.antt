@@ -1,2 +1,5 @@
 pub mod Records
 pub mod Rowing
+pub mod Showing
+pub mod Texts
+pub mod Writing

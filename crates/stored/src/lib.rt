@@ -13,3 +13,5 @@ mod record;
 mod rest;
 mod row;
 mod rows;
+pub mod show;
+mod text;

@@ -1,6 +1,7 @@
 // A row of a stored table.
 ghost use Rattle.std.specs.Prelude.{◌≡◌, ◌<◌, vec_items, vec_len};
 ghost use Rattle.polynomial.specs.Polynomial.{leading};
+ghost use Rattle.stored.specs.Leader.{leader_of};
 
 use monomial::Monomial;
 use polynomial::term::Term;
@@ -15,7 +16,8 @@ pub(crate) struct Row {
 impl Row {
     // Its leading monomial.
     pub(crate) fn leader(&self) -> Monomial
-        ensures { result.exponents ≡ leading (vec_items self.now.terms) }
+        ensures value { result ≡ leader_of (vec_items self.now.terms) }
+        ensures leads { result.exponents ≡ leading (vec_items self.now.terms) }
     {
         self.terms[0].monomial
     }

@@ -1,0 +1,267 @@
+// A table as people write it.
+ghost use Rattle.std.specs.Prelude.{◌≡◌, ◌++◌, [], false, cond, codes, length, Some as the, vec_items};
+ghost use Rattle.monomial.specs.Lists.{exponents_of};
+ghost use Rattle.stored.specs.Rows.{polys};
+ghost use Rattle.stored.specs.Text.{factor_text, powers_text, has_coefficient as shows_coefficient, term_text, poly_text, variable_text, variables_text, says_yes, row_text, rows_text, order_text, division_text, setting_text};
+
+use crate::row::Row;
+use choice::operands::Operands;
+use monomial::Monomial;
+use monomial::division::Division;
+use polynomial::term::Term;
+use std::fmt;
+
+// What stands between two parts.
+fn mark(mark: &'static str, started: bool) -> &'static str
+    ensures { result.now ≡ cond started mark.now [] }
+{
+    if started { mark } else { "" }
+}
+
+// One power of a monomial, with a star before it where something stands before it: x2, or x2^3; nothing at exponent 0.
+#[derive(Clone, Copy)]
+struct Factor {
+    variable: usize,
+    started: bool,
+    exponent: u8,
+}
+
+impl fmt::Display for Factor {
+    ghost output = { λ factor. the (factor_text factor.variable factor.started factor.exponent) };
+
+    fn fmt<W: fmt::Write>(&self, f: &mut fmt::Formatter<W>) -> fmt::Result {
+        let star = mark("*", self.started);
+        let variable = self.variable;
+        match self.exponent {
+            0 => Ok(()),
+            1 => write!(f, "{star}x{variable}"),
+            exponent => write!(f, "{star}x{variable}^{exponent}"),
+        }
+    }
+}
+
+// The powers of a monomial, where something stands before them or nothing does.
+#[derive(Clone, Copy)]
+struct Powers {
+    monomial: Monomial,
+    started: bool,
+}
+
+impl fmt::Display for Powers {
+    ghost output = { λ powers. the (powers_text 1 powers.started powers.monomial.exponents) };
+
+    fn fmt<W: fmt::Write>(&self, f: &mut fmt::Formatter<W>) -> fmt::Result {
+        let mut started = self.started;
+        for (i, exponent) in self.monomial.exponents.iter().enumerate() {
+            let factor = Factor {
+                variable: i + 1,
+                started,
+                exponent: *exponent,
+            };
+            write!(f, "{factor}")?;
+            started |= *exponent > 0;
+        }
+        Ok(())
+    }
+}
+
+// The coefficient is written unless it is 1 before a power.
+fn has_coefficient(term: &Term) -> bool
+    ensures { result ≡ shows_coefficient term.now }
+{
+    term.monomial.degree() == 0 || term.coefficient != 1
+}
+
+#[derive(Clone, Copy)]
+struct Written<'a>(&'a Term);
+
+impl fmt::Display for Written<'_> {
+    ghost output = { λ written. the (term_text written.0.now) };
+
+    fn fmt<W: fmt::Write>(&self, f: &mut fmt::Formatter<W>) -> fmt::Result {
+        let Term {
+            coefficient,
+            monomial,
+        } = *self.0;
+        let started = has_coefficient(self.0);
+        let powers = Powers { monomial, started };
+        if started {
+            write!(f, "{coefficient}{powers}")
+        } else {
+            write!(f, "{powers}")
+        }
+    }
+}
+
+// A polynomial as a sum of its terms.
+#[derive(Clone, Copy)]
+struct Sum<'a>(&'a [Term]);
+
+impl fmt::Display for Sum<'_> {
+    ghost output = { λ sum. the (poly_text sum.0.now) };
+
+    fn fmt<W: fmt::Write>(&self, f: &mut fmt::Formatter<W>) -> fmt::Result {
+        let [first, behind @ ..] = self.0 else {
+            return write!(f, "0");
+        };
+        write!(f, "{}", Written(first))?;
+        for term in behind {
+            write!(f, " + {}", Written(term))?;
+        }
+        Ok(())
+    }
+}
+
+// A table whose rows have those leading monomials.
+#[derive(Clone, Copy)]
+pub(crate) struct Table<'a, D> {
+    pub(crate) operands: Operands,
+    pub(crate) division: &'a D,
+    pub(crate) leaders: &'a [Monomial],
+    pub(crate) rows: &'a [Row],
+}
+
+// One variable, where it is told, with a comma before it where one stands before it.
+#[derive(Clone, Copy)]
+struct Variable {
+    told: bool,
+    started: bool,
+    variable: usize,
+}
+
+impl fmt::Display for Variable {
+    ghost output = { λ x. the (variable_text x.told x.started x.variable) };
+
+    fn fmt<W: fmt::Write>(&self, f: &mut fmt::Formatter<W>) -> fmt::Result {
+        if !self.told {
+            return Ok(());
+        }
+        let comma = mark(", ", self.started);
+        let variable = self.variable;
+        write!(f, "{comma}x{variable}")
+    }
+}
+
+// The multiplicative variables of a row.
+#[derive(Clone, Copy)]
+struct Variables<'t, 'a, D> {
+    table: &'t Table<'a, D>,
+    row: usize,
+}
+
+impl<D: Division> fmt::Display for Variables<'_, '_, D> {
+    ghost output = { λ x. the (variables_text (λ v. says_yes (D.Division.meaning x.table.now.division.now (exponents_of x.table.now.leaders.now) x.row v)) 1 false x.table.now.operands.variables) };
+
+    fn fmt<W: fmt::Write>(&self, f: &mut fmt::Formatter<W>) -> fmt::Result {
+        let Table {
+            operands,
+            division,
+            leaders,
+            ..
+        } = self.table;
+        let mut started = false;
+        for i in 0..usize::from(operands.variables) {
+            let told = division
+                .multiplicative(leaders, self.row, i + 1)
+                .unwrap_or(false);
+            let variable = Variable {
+                told,
+                started,
+                variable: i + 1,
+            };
+            write!(f, "{variable}")?;
+            started |= told;
+        }
+        Ok(())
+    }
+}
+
+// A row's number, its polynomial and its multiplicative variables.
+#[derive(Clone, Copy)]
+struct Line<'t, 'a, D> {
+    table: &'t Table<'a, D>,
+    number: usize,
+    row: &'a Row,
+}
+
+impl<D: Division> fmt::Display for Line<'_, '_, D> {
+    ghost output = { λ x. the (row_text (D.Division.meaning x.table.now.division.now) (exponents_of x.table.now.leaders.now) x.table.now.operands.variables x.number (vec_items x.row.now.terms)) };
+
+    fn fmt<W: fmt::Write>(&self, f: &mut fmt::Formatter<W>) -> fmt::Result {
+        let number = self.number;
+        let sum = Sum(self.row.terms.as_slice());
+        let variables = Variables {
+            table: self.table,
+            row: number,
+        };
+        write!(f, "{number}: {sum} {{{variables}}}\n")
+    }
+}
+
+// The order and the division are known to their traits by what they answer alone: their names come by the operands.
+fn order_name(code: u8) -> &'static str
+    ensures { result.now ≡ order_text code }
+{
+    match code {
+        1 => "lex",
+        2 => "deglex",
+        _ => "degrevlex",
+    }
+}
+
+fn division_name(code: u8) -> &'static str
+    ensures { result.now ≡ division_text code }
+{
+    match code {
+        1 => "Janet",
+        _ => "Thomas",
+    }
+}
+
+// The line on the setting of a table with that many rows.
+#[derive(Clone, Copy)]
+struct Heading {
+    operands: Operands,
+    rows: usize,
+}
+
+impl fmt::Display for Heading {
+    ghost output = { λ h. the (setting_text h.operands.modulus h.operands.variables h.operands.order h.operands.division h.rows) };
+
+    fn fmt<W: fmt::Write>(&self, f: &mut fmt::Formatter<W>) -> fmt::Result {
+        let Operands {
+            modulus,
+            variables,
+            ..
+        } = self.operands;
+        let order = order_name(self.operands.order);
+        let division = division_name(self.operands.division);
+        let rows = self.rows;
+        write!(
+            f,
+            "GF({modulus}), variables {variables}, {order}, {division}, rows {rows}\n"
+        )
+    }
+}
+
+// The heading, then a line for each row.
+impl<D: Division> fmt::Display for Table<'_, D> {
+    ghost output = { λ t. the (setting_text t.operands.modulus t.operands.variables t.operands.order t.operands.division (length t.rows.now) ++ rows_text (D.Division.meaning t.division.now) (exponents_of t.leaders.now) t.operands.variables 1 (polys t.rows.now)) };
+
+    fn fmt<W: fmt::Write>(&self, f: &mut fmt::Formatter<W>) -> fmt::Result {
+        let heading = Heading {
+            operands: self.operands,
+            rows: self.rows.len(),
+        };
+        write!(f, "{heading}")?;
+        for (i, row) in self.rows.iter().enumerate() {
+            let line = Line {
+                table: self,
+                number: i + 1,
+                row,
+            };
+            write!(f, "{line}")?;
+        }
+        Ok(())
+    }
+}
