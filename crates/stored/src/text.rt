@@ -40,19 +40,19 @@ impl fmt::Display for Factor {
     }
 }
 
-// The powers of a monomial, where something stands before them or nothing does.
+// The powers of a monomial by its exponents, where something stands before them or nothing does.
 #[derive(Clone, Copy)]
-struct Powers {
-    monomial: Monomial,
+struct Powers<'a> {
+    exponents: &'a [u8],
     started: bool,
 }
 
-impl fmt::Display for Powers {
-    ghost output = { λ powers. the (powers_text 1 powers.started powers.monomial.exponents) };
+impl fmt::Display for Powers<'_> {
+    ghost output = { λ powers. the (powers_text 1 powers.started powers.exponents.now) };
 
     fn fmt<W: fmt::Write>(&self, f: &mut fmt::Formatter<W>) -> fmt::Result {
         let mut started = self.started;
-        for (i, exponent) in self.monomial.exponents.iter().enumerate() {
+        for (i, exponent) in self.exponents.iter().enumerate() {
             let factor = Factor {
                 variable: i + 1,
                 started,
@@ -79,12 +79,12 @@ impl fmt::Display for Written<'_> {
     ghost output = { λ written. the (term_text written.0.now) };
 
     fn fmt<W: fmt::Write>(&self, f: &mut fmt::Formatter<W>) -> fmt::Result {
-        let Term {
-            coefficient,
-            monomial,
-        } = *self.0;
+        let coefficient = self.0.coefficient;
         let started = has_coefficient(self.0);
-        let powers = Powers { monomial, started };
+        let powers = Powers {
+            exponents: &self.0.monomial.exponents,
+            started,
+        };
         if started {
             write!(f, "{coefficient}{powers}")
         } else {

@@ -1,13 +1,10 @@
 use Rattle.std.proofs.Common.{suc, drop}
 use Rattle.std.specs.Fmt.{IsPlainFormatter}
-use Rattle.monomial.specs.Monomial.{Wide}
 use Rattle.stored.specs.Text.{powers_text}
 use Rattle.stored.proofs.Writing.{HasLeft}
 use Rattle.stored.proofs.text.PowersDisplay.fmt.Given as goal
 
 abbrev pub invariant-loop-i : goal.invariant-loop-i
-invariant-loop-i g l = record {
-  left : IsPlainFormatter l.initial.f
-      → HasLeft g.W.Write.write_str_gives l.initial.f (powers_text 1 l.self.started l.self.monomial.exponents) (powers_text (suc l.i) l.started (drop l.i l.self.monomial.exponents)) l.f;
-  wide : Wide l.self.monomial.exponents;
-}
+invariant-loop-i g l =
+    IsPlainFormatter l.initial.f
+    → HasLeft g.W.Write.write_str_gives l.initial.f (powers_text 1 l.self.started l.self.exponents.now) (powers_text (suc l.i) l.started (drop l.i l.self.exponents.now)) l.f
