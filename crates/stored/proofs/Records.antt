@@ -1,25 +1,13 @@
 -- Reading one record.
-use Rattle.std.proofs.Common.{◌≡◌, ℕ, ◌+◌, ◌-◌, ◌^◌, ◌<◌, ◌≤◌, List, [], ◌∷◌, length, get_or, take, drop, Err, refl, ap, subst, arith, length-append}
-use Rattle.std.proofs.lemmas.List.{take_rest}
+use Rattle.std.proofs.Common.{◌≡◌, ℕ, ◌-◌, ◌≤◌, List, [], ◌∷◌, length, get_or, Err, refl, subst, arith}
 use Rattle.polynomial.specs.declared.bytes.NoRun.{NoRun}
 use Rattle.polynomial.specs.declared.bytes.NoRun.TheVariants.{Cut, Memory as NoMemory}
 use Rattle.polynomial.specs.Polynomial.{Poly}
-use Rattle.polynomial.specs.Bytes.{poly_bytes}
-use Rattle.polynomial.specs.Reading.{IsRun, IsCut, ReadsRun}
+use Rattle.polynomial.specs.Reading.{IsRun, ReadsRun}
 use Rattle.stored.specs.declared.rest.Rest.{Rest}
 use Rattle.stored.specs.declared.fault.Reason.TheVariants.{OpenRecord, OtherByte}
 use Rattle.stored.specs.Stored.{NoRecord, cut, open_end, other}
-use Rattle.stored.specs.Record.{ReadsRecord, WithinFile, fault_of}
-
-pub rest_within : (bytes rest : List ℕ) (f : Poly) → IsRun bytes f rest → length rest ≤ length bytes
-rest_within bytes rest f h = omega (arith, ap length h.written, length-append (poly_bytes f) rest)
-
-pub cut_within : (bytes : List ℕ) (k : ℕ) → IsCut bytes k → k ≤ length bytes
-cut_within bytes k h = omega (arith, h.place, ap length h.written, length-append (poly_bytes h.terms) h.rest)
-
-pub within_file : (bytes : List ℕ) (offset : ℕ) (why : NoRun) → offset + length bytes < 2 ^ 64 → ReadsRun bytes (Err why) → WithinFile why offset
-within_file bytes offset (Cut k) l h = omega (arith, cut_within bytes k h)
-within_file bytes offset NoMemory l h = tt
+use Rattle.stored.specs.Record.{ReadsRecord, fault_of}
 
 pub no_run : (rest : Rest) (why : NoRun) → ReadsRun rest.bytes.now (Err why) → ReadsRecord rest (Err (fault_of why rest.offset))
 no_run rest (Cut k) h = (k, refl, cut h)

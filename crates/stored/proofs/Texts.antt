@@ -1,15 +1,13 @@
 -- Text that is written piece by piece.
-use Rattle.std.proofs.Common.{◌≡◌, ℕ, suc, ◌+◌, ◌-◌, ◌<◌, Bool, true, false, cond, ◌||◌, ltb, List, [], ◌∷◌, ◌++◌, length, get_or, drop, Some, None, vec_items, codes, decimal, Option, Vec, unwrap_or, sym, refl, ap, ◌∙◌, ap₂, append_assoc, append-nil, add-one, arith}
+use Rattle.std.proofs.Common.{◌≡◌, ℕ, suc, ◌+◌, ◌-◌, ◌<◌, ◌≤◌, Bool, false, ◌||◌, ltb, List, [], ◌∷◌, ◌++◌, length, get_or, drop, Some, None, vec_items, codes, Option, unwrap_or, sym, refl, ap, ◌∙◌, append_assoc, add-one, arith}
 use Rattle.std.proofs.Math.Bool.{or_comm}
 use Rattle.std.proofs.lemmas.List.{at_drop_more}
-use Rattle.std.proofs.lemmas.Bool.{ne_eqb}
 use Rattle.polynomial.specs.declared.term.Term.{Term}
-use Rattle.polynomial.specs.Polynomial.{Poly, exponents}
-use Rattle.std.specs.declared.alloc.Global.{Global}
+use Rattle.polynomial.specs.Polynomial.{Poly}
 use Rattle.monomial.specs.Division.{Split}
 use Rattle.stored.specs.declared.row.Row.{Row}
 use Rattle.stored.specs.Rows.{polys}
-use Rattle.stored.specs.Text.{row_text, rows_text, power_text, factor_text, powers_text, has_coefficient, term_text, behind_text, poly_text, says_yes, variable_text, variables_text}
+use Rattle.stored.specs.Text.{row_text, rows_text, factor_text, powers_text, term_text, behind_text, poly_text, says_yes, variable_text, variables_text}
 
 -- the powers from place i on
 pub powers_from : (m : List ℕ) (i : ℕ) (s : Bool) → i < length m →
@@ -27,15 +25,19 @@ pub poly_pieces : (f : Poly) (d : Term) → 0 < length f → poly_text f ≡ ter
 poly_pieces [] d h = absurd (omega arith)
 poly_pieces (t ∷ f) d h = refl
 
--- the variables from i + 1 on
-pub variables_from : (test : ℕ → Bool) (n i : ℕ) (s told : Bool) → i < n → told ≡ test (i + 1) →
-    variables_text test (suc i) s (n - i) ≡ variable_text told s (i + 1) ++ variables_text test (suc (i + 1)) (s || told) (n - (i + 1))
-variables_from test n i s told h p =
-    let e : n - i ≡ suc (n - (i + 1)) = omega arith in
-    ap (variables_text test (suc i) s) e
-    ∙ ap (λ k. variable_text (test k) s k ++ variables_text test (suc k) (test k || s) (n - (i + 1))) (sym (add-one i))
-    ∙ ap (λ b. variable_text b s (i + 1) ++ variables_text test (suc (i + 1)) (b || s) (n - (i + 1))) (sym p)
-    ∙ ap (λ b. variable_text told s (i + 1) ++ variables_text test (suc (i + 1)) b (n - (i + 1))) (or_comm told s)
+-- the variables from number k on
+module _ (test : ℕ → Bool) (n k : ℕ) (s : Bool) where
+  pub variables_from : (told : Bool) → k ≤ n → told ≡ test k →
+      variables_text test k s (suc n - k) ≡ variable_text told s k ++ variables_text test (k + 1) (s || told) (suc n - (k + 1))
+  variables_from told h p =
+      let e : suc n - k ≡ suc (suc n - (k + 1)) = omega arith in
+      ap (variables_text test k s) e
+      ∙ ap (λ j. variable_text (test k) s k ++ variables_text test j (test k || s) (suc n - (k + 1))) (sym (add-one k))
+      ∙ ap (λ b. variable_text b s k ++ variables_text test (k + 1) (b || s) (suc n - (k + 1))) (sym p)
+      ∙ ap (λ b. variable_text told s k ++ variables_text test (k + 1) b (suc n - (k + 1))) (or_comm told s)
+
+  pub variables_none : n < k → variables_text test k s (suc n - k) ≡ []
+  variables_none h = let e : suc n - k ≡ 0 = omega arith in ap (variables_text test k s) e
 
 pub says : (o : Option Bool) → unwrap_or o false ≡ says_yes o
 says None = refl

@@ -30,11 +30,11 @@ fn run_fault(why: NoRun, offset: usize) -> Fault
 pub(crate) fn read_record(heap: Global, rest: Rest<'_>) -> Result<Record<'_>, Fault>
     ensures { ReadsRecord rest.entry result }
 {
-    let run = match read_run(heap, rest.bytes) {
+    // By a match: a closure for `map_err` would have to say again what the offset needs.
+    let Run { terms, rest: end } = match read_run(heap, rest.bytes) {
         Ok(run) => run,
         Err(why) => return Err(run_fault(why, rest.offset)),
     };
-    let Run { terms, rest: end } = run;
     let offset = rest.offset + (rest.bytes.len() - end.len());
     match end {
         [0x02, bytes @ ..] => {

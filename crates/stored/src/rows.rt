@@ -67,7 +67,7 @@ fn place_fault(why: Reason, offset: usize) -> usize
     ensures { result ≡ offset + behind why }
 {
     match why {
-        Reason::Refused(refusal) => offset + (refusal.place().saturating_sub(1)) * TERM_BYTES,
+        Reason::Refused(refusal) => offset + refusal.place().saturating_sub(1) * TERM_BYTES,
         _ => offset,
     }
 }
@@ -92,6 +92,7 @@ fn read_row<'a, F: Field, O: Order>(
         return Ok(None);
     }
     let Record { terms, behind } = read_record(heap, rest)?;
+    // By a match: a closure for `map_err` would have to say again what the offset needs.
     match check_row(ring, before, terms) {
         Ok(row) => Ok(Some(Found { row, behind })),
         Err(why) => Err(Fault::Bad(why, place_fault(why, rest.offset))),

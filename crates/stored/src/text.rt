@@ -11,8 +11,8 @@ use monomial::division::Division;
 use polynomial::term::Term;
 use std::fmt;
 
-// What stands between two parts.
-fn mark(mark: &'static str, started: bool) -> &'static str
+// The mark that parts what follows from what stands before it, where something does.
+fn part(mark: &'static str, started: bool) -> &'static str
     ensures { result.now ≡ cond started mark.now [] }
 {
     if started { mark } else { "" }
@@ -30,7 +30,7 @@ impl fmt::Display for Factor {
     ghost output = { λ factor. the (factor_text factor.variable factor.started factor.exponent) };
 
     fn fmt<W: fmt::Write>(&self, f: &mut fmt::Formatter<W>) -> fmt::Result {
-        let star = mark("*", self.started);
+        let star = part("*", self.started);
         let variable = self.variable;
         match self.exponent {
             0 => Ok(()),
@@ -126,19 +126,19 @@ pub(crate) struct Table<'a, D> {
 struct Variable {
     told: bool,
     started: bool,
-    variable: usize,
+    number: usize,
 }
 
 impl fmt::Display for Variable {
-    ghost output = { λ x. the (variable_text x.told x.started x.variable) };
+    ghost output = { λ x. the (variable_text x.told x.started x.number) };
 
     fn fmt<W: fmt::Write>(&self, f: &mut fmt::Formatter<W>) -> fmt::Result {
         if !self.told {
             return Ok(());
         }
-        let comma = mark(", ", self.started);
-        let variable = self.variable;
-        write!(f, "{comma}x{variable}")
+        let comma = part(", ", self.started);
+        let number = self.number;
+        write!(f, "{comma}x{number}")
     }
 }
 
@@ -160,14 +160,14 @@ impl<D: Division> fmt::Display for Variables<'_, '_, D> {
             ..
         } = self.table;
         let mut started = false;
-        for i in 0..usize::from(operands.variables) {
+        for number in 1..=usize::from(operands.variables) {
             let told = division
-                .multiplicative(leaders, self.row, i + 1)
+                .multiplicative(leaders, self.row, number)
                 .unwrap_or(false);
             let variable = Variable {
                 told,
                 started,
-                variable: i + 1,
+                number,
             };
             write!(f, "{variable}")?;
             started |= told;

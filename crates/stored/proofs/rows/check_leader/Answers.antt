@@ -1,4 +1,4 @@
-use Rattle.std.proofs.Common.{◌≡◌, Bool, true, false, map, sym, ◌∙◌, rules}
+use Rattle.std.proofs.Common.{◌≡◌, true, false, map, sym, ◌∙◌, rules}
 use Rattle.polynomial.specs.Polynomial.{leading}
 use Rattle.stored.specs.Stored.{among}
 use Rattle.stored.specs.Rows.{polys}

@@ -1,4 +1,4 @@
-use Rattle.std.proofs.Common.{◌<◌, length, map, Ok, Err, Result, vec_items, sym, ap, arith, eqb-true}
+use Rattle.std.proofs.Common.{◌<◌, length, map, vec_items, sym, arith}
 use borrow.Author.Tests.{eqb-false}
 use Rattle.polynomial.specs.Polynomial.{leading}
 use Rattle.stored.specs.Record.{file_length}

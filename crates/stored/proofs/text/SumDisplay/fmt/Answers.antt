@@ -1,4 +1,4 @@
-use Rattle.std.proofs.Common.{◌+◌, ◌-◌, ◌<◌, ◌≤◌, [], ◌++◌, length, get_or, take, drop, codes, sym, ap, ◌∙◌, arith, rules, ltb-false}
+use Rattle.std.proofs.Common.{◌+◌, ◌-◌, ◌<◌, [], ◌++◌, length, get_or, take, drop, codes, sym, ap, ◌∙◌, arith, rules, ltb-false}
 use Rattle.std.proofs.Output.{has_written_append, has_written_of_eq}
 use Rattle.std.proofs.lemmas.List.{at_drop_all, take_rest}
 use Rattle.std.specs.Fmt.{HasWritten}

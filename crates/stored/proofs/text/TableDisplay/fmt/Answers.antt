@@ -1,4 +1,4 @@
-use Rattle.std.proofs.Common.{suc, ◌+◌, ◌<◌, ◌≤◌, ◌++◌, length, drop, vec_items, rules}
+use Rattle.std.proofs.Common.{suc, ◌+◌, length, drop, vec_items, rules}
 use Rattle.std.proofs.Output.{has_written_append}
 use Rattle.std.proofs.lemmas.List.{at_drop_all}
 use Rattle.std.specs.Fmt.{HasWritten}
