@@ -11,6 +11,15 @@ use monomial::division::Division;
 use polynomial::term::Term;
 use std::fmt;
 
+// A table whose rows have those leading monomials.
+#[derive(Clone, Copy)]
+pub(crate) struct Table<'a, D> {
+    pub(crate) operands: Operands,
+    pub(crate) division: &'a D,
+    pub(crate) leaders: &'a [Monomial],
+    pub(crate) rows: &'a [Row],
+}
+
 // The mark that parts what follows from what stands before it, where something does.
 fn part(mark: &'static str, started: bool) -> &'static str
     ensures { result.now ≡ cond started mark.now [] }
@@ -72,6 +81,7 @@ fn has_coefficient(term: &Term) -> bool
     term.monomial.degree() == 0 || term.coefficient != 1
 }
 
+// A term: its coefficient, where it is written, and its powers.
 #[derive(Clone, Copy)]
 struct Written<'a>(&'a Term);
 
@@ -110,15 +120,6 @@ impl fmt::Display for Sum<'_> {
         }
         Ok(())
     }
-}
-
-// A table whose rows have those leading monomials.
-#[derive(Clone, Copy)]
-pub(crate) struct Table<'a, D> {
-    pub(crate) operands: Operands,
-    pub(crate) division: &'a D,
-    pub(crate) leaders: &'a [Monomial],
-    pub(crate) rows: &'a [Row],
 }
 
 // One variable, where it is told, with a comma before it where one stands before it.

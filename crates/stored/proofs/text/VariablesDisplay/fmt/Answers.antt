@@ -8,45 +8,44 @@ use Rattle.stored.proofs.text.VariablesDisplay.fmt.Goals as goal
 pub loop-number-init : goal.loop-number-init
 loop-number-init g c = λ p.
     let table = c.args.self.now.table.now in
-    let n = table.operands.variables in
     let test : ℕ → Bool = λ v. says_yes (g.D.Division.meaning table.division.now (exponents_of table.leaders.now) c.args.self.now.row v) in
+    let n = table.operands.variables in
     let e : suc n - 1 ≡ n = omega arith in
-    nothing_yet g.W.Write.write_str_gives c.args.f.now (variables_text test 1 false n) (variables_text test 1 false (suc n - 1)) p (ap (variables_text test 1 false) e)
+    nothing_yet p (ap (variables_text test 1 false) e)
 
 pub loop-number-preserved : goal.loop-number-preserved
 loop-number-preserved g c = λ p.
     let table = c.args.self.now.table.now in
-    let n = table.operands.variables in
     let test : ℕ → Bool = λ v. says_yes (g.D.Division.meaning table.division.now (exponents_of table.leaders.now) c.args.self.now.row v) in
+    let n = table.operands.variables in
     let k = c.loop-number.number in
     let s = c.loop-number.started in
     let told = c.unwrap_or-told.result in
     let h : k ≤ n = omega (arith, c.from-number-end.ensures) in
-    let plain = (c.loop-number.invariant p).1.plain in
-    one_more g.W.Write.write_str_gives c.args.f.now (variables_text test 1 false n) (variables_text test k s (suc n - k)) (variable_text told s k) (variables_text test (k + 1) (s || told) (suc n - (k + 1))) c.loop-number.f c.write.new.self
-    (variables_from test n k s told h (c.unwrap_or-told.ensures ∙ says c.multiplicative.result ∙ ap says_yes c.multiplicative.ensures)) (c.loop-number.invariant p) (search rules)
+    let left = c.loop-number.invariant p in
+    let plain = left.written.plain in
+    one_more (variable_text told s k) (variables_from test n k s told h (c.unwrap_or-told.ensures ∙ says c.multiplicative.result ∙ ap says_yes c.multiplicative.ensures)) left (search rules)
 
 pub returns-clause-writes : goal.returns-clause-writes
 returns-clause-writes g c = λ p ok.
     let table = c.args.self.now.table.now in
-    let n = table.operands.variables in
     let test : ℕ → Bool = λ v. says_yes (g.D.Division.meaning table.division.now (exponents_of table.leaders.now) c.args.self.now.row v) in
+    let n = table.operands.variables in
     let k = c.loop-number.number in
-    let s = c.loop-number.started in
     let h : n < k = omega (arith, c.from-number-end.ensures) in
-    all_written g.W.Write.write_str_gives c.args.f.now (variables_text test 1 false n) (variables_text test k s (suc n - k)) c.loop-number.f (variables_none test n k s h) (c.loop-number.invariant p)
+    all_written (variables_none test n k c.loop-number.started h) (c.loop-number.invariant p)
 
 pub returns-in_ok-write-clause-writes : goal.returns-in_ok-write-clause-writes
 returns-in_ok-write-clause-writes g c = λ p ok.
     let table = c.args.self.now.table.now in
-    let n = table.operands.variables in
     let test : ℕ → Bool = λ v. says_yes (g.D.Division.meaning table.division.now (exponents_of table.leaders.now) c.args.self.now.row v) in
+    let n = table.operands.variables in
     let k = c.loop-number.number in
     let s = c.loop-number.started in
     let told = c.unwrap_or-told.result in
     let h : k ≤ n = omega (arith, c.from-number-end.ensures) in
-    let plain = (c.loop-number.invariant p).1.plain in
     let end : n < k + 1 = omega (arith, c.from-number-end.ensures) in
-    all_written g.W.Write.write_str_gives c.args.f.now (variables_text test 1 false n) (variables_text test (k + 1) (s || told) (suc n - (k + 1))) c.write.new.self (variables_none test n (k + 1) (s || told) end)
-    (one_more g.W.Write.write_str_gives c.args.f.now (variables_text test 1 false n) (variables_text test k s (suc n - k)) (variable_text told s k) (variables_text test (k + 1) (s || told) (suc n - (k + 1))) c.loop-number.f c.write.new.self
-    (variables_from test n k s told h (c.unwrap_or-told.ensures ∙ says c.multiplicative.result ∙ ap says_yes c.multiplicative.ensures)) (c.loop-number.invariant p) (search rules))
+    let left = c.loop-number.invariant p in
+    let plain = left.written.plain in
+    all_written (variables_none test n (k + 1) (s || told) end)
+    (one_more (variable_text told s k) (variables_from test n k s told h (c.unwrap_or-told.ensures ∙ says c.multiplicative.result ∙ ap says_yes c.multiplicative.ensures)) left (search rules))
