@@ -17,110 +17,75 @@ struct Case {
     expected: String,
 }
 
+impl Case {
+    fn new(heap: Global, name: &str) -> Result<Case, AllocError> {
+        Ok(Case {
+            name: String::from_str(heap, name)?,
+            input: Vec::new(heap),
+            expected: String::new(heap),
+        })
+    }
+
+    // One line more.
+    fn take_line(&mut self, heap: Global, line: &str) -> anyhow::Result<()> {
+        if let Some(text) = line.strip_prefix("in ") {
+            let bytes = hex::decode(heap, text)
+                .map_err(|_| anyhow!("a case has an input that is not hexadecimal"))?;
+            self.input.extend_from_slice(bytes.as_slice())?;
+        }
+        if let Some(expected) = line.strip_prefix("out ") {
+            self.expected.push_str(expected)?;
+            self.expected.push_str("\n")?;
+        }
+        Ok(())
+    }
+
+    // Whether the transcript is the expected one; a case that fails is named.
+    fn run(&self, rt: &HostRuntime) -> anyhow::Result<bool> {
+        let text = transcript(rt.alloc(), self.input.as_slice())?;
+        let passed = text.as_slice() == self.expected.as_bytes();
+        if !passed {
+            let name = self.name.as_str();
+            println!(rt; "failed: {name}")?;
+        }
+        Ok(passed)
+    }
+}
+
 // How many cases came out as written, and how many did not.
-#[derive(Clone, Copy)]
+#[derive(Clone, Copy, Default)]
 struct Tally {
     passed: u64,
     failed: u64,
 }
 
-fn new_case(heap: Global, name: &str) -> Result<Case, AllocError> {
-    Ok(Case {
-        name: String::from_str(heap, name)?,
-        input: Vec::new(heap),
-        expected: String::new(heap),
-    })
-}
-
-fn digit(b: u8) -> Option<u8> {
-    match b {
-        b'0'..=b'9' => Some(b - b'0'),
-        b'a'..=b'f' => Some(b - b'a' + 10),
-        _ => None,
-    }
-}
-
-// The bytes that a hexadecimal text names.
-fn decode(hex: &str, bytes: &mut Vec<u8>) -> anyhow::Result<()> {
-    let mut high = None;
-    for b in hex.bytes() {
-        let Some(d) = digit(b) else {
-            return Err(anyhow!("a case has an input that is not hexadecimal"));
+impl Tally {
+    fn count(&mut self, passed: bool) {
+        let counter = if passed {
+            &mut self.passed
+        } else {
+            &mut self.failed
         };
-        match high {
-            None => high = Some(d),
-            Some(h) => {
-                bytes.push((h & 15) * 16 + (d & 15))?;
-                high = None;
-            }
-        }
+        *counter = counter.saturating_add(1);
     }
-    if high.is_some() {
-        return Err(anyhow!("a case has half a byte"));
-    }
-    Ok(())
-}
-
-// Whether the transcript of the case is the expected one; a case that fails is named, with what came instead.
-fn run_case(rt: &HostRuntime, case: &Case) -> anyhow::Result<bool> {
-    let text = transcript(rt.alloc(), case.input.as_slice())?;
-    if text.as_slice() == case.expected.as_bytes() {
-        return Ok(true);
-    }
-    let name = case.name.as_str();
-    println!(rt; "failed: {name}")?;
-    Ok(false)
-}
-
-fn count(tally: Tally, passed: bool) -> Tally {
-    if passed {
-        Tally {
-            passed: tally.passed.saturating_add(1),
-            failed: tally.failed,
-        }
-    } else {
-        Tally {
-            passed: tally.passed,
-            failed: tally.failed.saturating_add(1),
-        }
-    }
-}
-
-// One line of a case more.
-fn take_line(case: &mut Case, line: &str) -> anyhow::Result<()> {
-    if let Some(hex) = line.strip_prefix("in ") {
-        return decode(hex, &mut case.input);
-    }
-    if let Some(expected) = line.strip_prefix("out ") {
-        case.expected.push_str(expected)?;
-        case.expected.push_str("\n")?;
-    }
-    Ok(())
 }
 
 fn run_file(rt: &HostRuntime, path: &str) -> anyhow::Result<Tally> {
     let heap = rt.alloc();
     let text = fs::read_to_string(rt, path)?;
-    let mut tally = Tally {
-        passed: 0,
-        failed: 0,
-    };
-    let mut current = None;
+    let mut tally = Tally::default();
+    let mut current: Option<Case> = None;
     for line in text.lines() {
         if let Some(name) = line.strip_prefix("case ") {
-            if let Some(case) = current {
-                tally = count(tally, run_case(rt, &case)?);
+            if let Some(case) = current.replace(Case::new(heap, name)?) {
+                tally.count(case.run(rt)?);
             }
-            current = Some(new_case(heap, name)?);
-        } else {
-            if let Some(mut case) = current {
-                take_line(&mut case, line)?;
-                current = Some(case);
-            }
+        } else if let Some(case) = &mut current {
+            case.take_line(heap, line)?;
         }
     }
     if let Some(case) = current {
-        tally = count(tally, run_case(rt, &case)?);
+        tally.count(case.run(rt)?);
     }
     Ok(tally)
 }

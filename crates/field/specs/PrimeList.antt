@@ -1,6 +1,7 @@
 -- Which numbers stand in the list of primes, and what a search through it finds.
-use Rattle.std.specs.Prelude.{◌≡◌, ℕ, zero, suc, ◌+◌, ◌%◌, ◌<◌, ◌≤◌, Bool, true, false, cond, not, List, [], ◌∷◌, length, drop, ◌==◌, ◌≢◌, nat_le, nat_lt, slice_index, refl}
-use Rattle.std.proofs.Common.{sym, ◌∙◌, ⊎_elim, not-suc-le-zero, le_of_suc-le-suc, add-one, arith, drop-cons}
+use Rattle.std.specs.Prelude.{◌≡◌, ℕ, zero, suc, ◌+◌, ◌%◌, ◌<◌, ◌≤◌, Bool, true, false, cond, not, ◌||◌, List, [], ◌∷◌, length, drop, ◌==◌, ◌≢◌, nat_le, nat_lt, slice_index, refl}
+use Rattle.std.specs.List.{list_any}
+use Rattle.std.proofs.Common.{sym, ◌∙◌, ap₂, ⊎_elim, not-suc-le-zero, le_of_suc-le-suc, add-one, arith, drop-cons}
 use Rattle.std.proofs.lemmas.Bool.{not-true, not_from_false, ltb-true, leb-true, eqb-false, lt-ltb, le-ltb, eq-eqb, ne_eqb, cases_lt, cases_Bool, cond-true, cond-false}
 use Rattle.field.specs.Primes.{stands_in, primes, listed, PrimeUpTo251, ListedAreThePrimes}
 use Rattle.field.specs.Computed.{both_parts, both_from, every_below, at_below, every_below_from, every_of, at_of}
@@ -73,3 +74,18 @@ found_stands n (x ∷ xs) (suc i) h e =
 -- a search goes on past another number
 pub passed_over : (n : ℕ) (xs : List ℕ) (i : ℕ) → i < length xs → (slice_index xs i ≢ n) → stands_in n (drop i xs) ≡ stands_in n (drop (i + 1) xs)
 passed_over n xs i h ne = rw (add-one, drop-cons xs i 0 h) (cond-false (n == slice_index xs i) true (stands_in n (drop (suc i) xs)) (ne_eqb n (slice_index xs i) (λ e. ne (sym e))))
+
+-- the library's search finds what stands there
+same_tests : (a b : ℕ) → (a == b) ≡ (b == a)
+same_tests a b = ⊎_elim
+    (λ h. ne_eqb a b (λ e. omega (arith, h)) ∙ sym (ne_eqb b a (λ e. omega (arith, h))))
+    (λ h. ⊎_elim (λ l. ne_eqb a b (λ e. omega (arith, l)) ∙ sym (ne_eqb b a (λ e. omega (arith, l)))) (λ l. eq-eqb a b (omega arith) ∙ sym (eq-eqb b a (omega arith))) (cases_lt b a))
+    (cases_lt a b)
+
+pub stands_any : (n : ℕ) (xs : List ℕ) → list_any (λ x. x == n) xs ≡ stands_in n xs
+stands_any n [] = refl
+stands_any n (x ∷ xs) = ap₂ (λ s t. s || t) (same_tests x n) (stands_any n xs) ∙ either (n == x)
+  where
+    either : (t : Bool) → (t || stands_in n xs) ≡ cond t true (stands_in n xs)
+    either true = refl
+    either false = refl

@@ -25,12 +25,11 @@ impl Prime {
         ensures answer { MatchOption result (listed p ≡ false) (λ x. (listed p ≡ true) × (x.p ≡ p)) }
         ensures primes { ListedAreThePrimes }
     {
-        for prime in PRIMES {
-            if prime == p {
-                return Some(Prime { p });
-            }
+        if PRIMES.contains(&p) {
+            Some(Prime { p })
+        } else {
+            None
         }
-        None
     }
 }
 

@@ -1,10 +1,9 @@
 -- Reading terms: what is read is what would be written.
-use Rattle.std.proofs.Common.{◌≡◌, ℕ, ◌+◌, ◌-◌, ◌*◌, ◌/◌, ◌%◌, ◌<◌, ◌≤◌, true, cond, List, [], ◌∷◌, ◌++◌, length, get_or, take, drop, is_ok, Ok, Err, vec_items, Result, sym, refl, ap, ◌∙◌, subst, ap₂, ⊎_elim, arith}
+use Rattle.std.proofs.Common.{◌≡◌, ℕ, ◌+◌, ◌-◌, ◌*◌, ◌/◌, ◌%◌, ◌<◌, ◌≤◌, List, [], ◌∷◌, ◌++◌, length, get_or, take, drop, Ok, Err, vec_items, Result, sym, refl, ap, ◌∙◌, subst, ap₂, ⊎_elim, arith}
 use mathlib.Core.List.Memᴰ
 use borrow.Rule.Slice.PartMut.{put_mid}
-use Rattle.std.proofs.lemmas.List.{take_rest, take-append-drop, append-nil, append_assoc, length-append, take_more, take_at, drop_at, drop-drop}
+use Rattle.std.proofs.lemmas.List.{append-nil, append_assoc, length-append, take_more, take_at, drop_at, drop-drop}
 use Rattle.polynomial.specs.declared.term.Term.{Term}
-use Rattle.std.proofs.lemmas.Bool.{cond-true}
 use Rattle.monomial.specs.Monomial.{Wide}
 use Rattle.polynomial.specs.Polynomial.{Poly, exponents}
 use Rattle.polynomial.specs.Bytes.{term_bytes, poly_bytes}
@@ -13,41 +12,10 @@ use Rattle.polynomial.specs.declared.bytes.NoRun.{NoRun}
 use Rattle.polynomial.specs.declared.bytes.NoRun.TheVariants.{Cut as CutAt, Memory}
 use Rattle.polynomial.specs.Reading.{Wides, StartsNoTerm, EndsInside, ReadsRun, IsRun, ReadsBack}
 
--- a term at the front of the input, taken apart
-pub read_front : (input front rest : List ℕ) (c : ℕ) → ((i : ℕ) → get_or input i 0 < 256) → get_or input 0 0 ≡ 1 → 3 ≤ length input →
-    c ≡ get_or input 1 0 * 256 + get_or input 2 0 → front ≡ take 6 (take (length input - 3) (drop 3 input)) → rest ≡ drop 6 (take (length input - 3) (drop 3 input)) →
-    input ≡ 1 ∷ (c / 256) ∷ (c % 256) ∷ (front ++ rest)
-read_front [] front rest c b e k is f r = absurd (omega arith)
-read_front (a ∷ []) front rest c b e k is f r = absurd (omega arith)
-read_front (a ∷ p ∷ []) front rest c b e k is f r = absurd (omega arith)
-read_front (a ∷ p ∷ q ∷ tail) front rest c b e k is f r =
-    let t = take_rest (a ∷ p ∷ q ∷ tail) 3 in
-    let z : front ++ rest ≡ tail = cc (take-append-drop 6 tail) in
-    let small : q < 256 = b 2 in
-    let high : c / 256 ≡ p = omega arith in
-    let low : c % 256 ≡ q = omega arith in
-    cc
-
--- what is written of a coefficient and exponents
-pub written_term : (t : Term) (pair exponents : List ℕ) → t.coefficient < 65536 → pair ≡ (t.coefficient / 256 % 256) ∷ (t.coefficient % 256) ∷ [] → exponents ≡ t.monomial.exponents →
-    1 ∷ get_or pair 0 0 ∷ get_or pair 1 0 ∷ (exponents ++ []) ≡ term_bytes t
-written_term t pair es l p e =
-    let high : t.coefficient / 256 % 256 ≡ t.coefficient / 256 = omega arith in
-    cc (append-nil es)
-
--- no bytes begin with no term
-pub starts_none : (bytes : List ℕ) → length bytes ≤ 0 → get_or bytes 0 0 ≡ 1 → ⊥
-starts_none [] l e = omega arith
-starts_none (x ∷ bytes) l e = omega arith
-
 -- one term more at the end
 pub bytes_push : (f : Poly) (t : Term) → poly_bytes (f ++ (t ∷ [])) ≡ poly_bytes f ++ term_bytes t
 bytes_push [] t = append-nil (term_bytes t)
 bytes_push (s ∷ f) t = ap (λ x. term_bytes s ++ x) (bytes_push f t) ∙ sym (append_assoc (term_bytes s) (poly_bytes f) (term_bytes t))
-
--- no terms yet
-pub run_start : (input : List ℕ) (f : Poly) → f ≡ [] → Wides f × (input ≡ poly_bytes f ++ input)
-run_start input f e = (subst Wides (sym e) (λ t m. elim m [ ]), sym (ap (λ x. poly_bytes x ++ input) e))
 
 wides_push : (f : Poly) (t : Term) → Wides f → Wide (exponents t) → Wides (f ++ (t ∷ []))
 wides_push [] t w h s m = ⊎_elim (λ e. subst (λ x. Wide (exponents x)) (sym e) h) (λ n. elim n [ ]) (Memᴰ.cases_cons m)
@@ -60,9 +28,6 @@ run_more input rest behind f g t h k e = (
   subst Wides (sym e) (wides_push f t h.0 k.0),
   h.1 ∙ ap (λ x. poly_bytes f ++ x) k.1 ∙ sym (append_assoc (poly_bytes f) (term_bytes t) behind) ∙ sym (ap (λ x. poly_bytes x ++ behind) e ∙ ap (λ x. x ++ behind) (bytes_push f t)),
 )
-
-pub behind_shorter : (rest behind : List ℕ) (t : Term) → rest ≡ term_bytes t ++ behind → length behind < length rest
-behind_shorter rest behind t e = omega (arith, ap length e, length-append (term_bytes t) behind)
 
 pub run_within : (input rest : List ℕ) (f : Poly) → input ≡ poly_bytes f ++ rest → length input ≡ length (poly_bytes f) + length rest
 run_within input rest f e = ap length e ∙ length-append (poly_bytes f) rest
@@ -81,10 +46,6 @@ write_more terms lent out i bytes d h same room is wide b l =
       ap (λ n. put_mid (i * 9) n out bytes) k ∙ ap₂ (λ x y. x ++ (bytes ++ y)) a (ap (drop 9) z ∙ w) ∙ sym (append_assoc P bytes (drop ((i + 1) * 9) lent)) ∙ ap (λ x. x ++ drop ((i + 1) * 9) lent) (sym more),
       omega (arith, ap length more, length-append P bytes),
     )
-
--- a push that was not refused
-pub pushed_term : {X E : Type 0} (f g : Poly) (t : Term) (r : Result X E) → g ≡ cond (is_ok r) (f ++ (t ∷ [])) f → is_ok r ≡ true → g ≡ f ++ (t ∷ [])
-pushed_term f g t r e h = e ∙ cond-true (is_ok r) (f ++ (t ∷ [])) f h
 
 -- two lists that begin with parts of one length
 pub same_parts : {X : Type 0} (a b x y : List X) → length a ≡ length b → a ++ x ≡ b ++ y → (a ≡ b) × (x ≡ y)

@@ -1,10 +1,10 @@
 -- Reading bytes as terms: what is read is what would be written.
-use Rattle.std.specs.Prelude.{◌≡◌, ℕ, ◌<◌, List, ◌++◌, length, Ok, Err, vec_items, Result, slice_index}
+use Rattle.std.specs.Prelude.{◌≡◌, ℕ, ◌<◌, List, ◌++◌, length, Some, None, Ok, Err, vec_items, Option, Result, slice_index}
 use mathlib.Core.List.{Memᴰ}
+use Rattle.std.specs.Borrow.{Bor}
 use Rattle.monomial.specs.Monomial.{Wide}
 use Rattle.polynomial.specs.declared.term.Term.{Term}
-use Rattle.polynomial.specs.declared.bytes.Front.{Front}
-use Rattle.polynomial.specs.declared.bytes.Front.TheVariants.{Term as AtFront, Cut, Other}
+use Rattle.polynomial.specs.declared.bytes.Cut.{Cut}
 use Rattle.polynomial.specs.declared.bytes.Run.{Run}
 use Rattle.polynomial.specs.declared.bytes.NoRun.{NoRun}
 use Rattle.polynomial.specs.declared.bytes.NoRun.TheVariants.{Cut as CutAt, Memory}
@@ -20,10 +20,10 @@ abbrev pub EndsInside : List ℕ → Type 0
 EndsInside bytes = (slice_index bytes 0 ≡ 1) × (length bytes < 9)
 
 -- the term at the front, and what stands behind it
-abbrev pub ReadsTerm : List ℕ → Front → Type 0
-ReadsTerm bytes (AtFront t behind) = Wide (exponents t) × (bytes ≡ term_bytes t ++ behind.now)
-ReadsTerm bytes Cut = EndsInside bytes
-ReadsTerm bytes Other = StartsNoTerm bytes
+abbrev pub ReadsTerm : List ℕ → Result (Option (Term × Bor (List ℕ))) Cut → Type 0
+ReadsTerm bytes (Ok (Some p)) = Wide (exponents p.0) × (bytes ≡ term_bytes p.0 ++ p.1.now)
+ReadsTerm bytes (Ok None) = StartsNoTerm bytes
+ReadsTerm bytes (Err cut) = EndsInside bytes
 
 -- each term has all its exponents
 abbrev pub Wides : Poly → Type 0

@@ -2,48 +2,36 @@
 ghost use Rattle.std.specs.Prelude.{◌≡◌, ℕ, ◌<◌, List, ◌++◌, length, drop, MatchResult};
 ghost use Rattle.polynomial.specs.Polynomial.{Poly};
 ghost use Rattle.polynomial.specs.Bytes.{term_bytes, poly_bytes, bytes_needed};
+ghost use Rattle.polynomial.specs.declared.bytes.NoRun.TheVariants.{Memory};
 ghost use Rattle.polynomial.specs.Reading.{ReadsTerm, ReadsRun, IsRun, ReadsBack};
 
 use crate::term::Term;
 use monomial::{Monomial, WIDTH};
-use std::alloc::Global;
+use std::alloc::{AllocFailed, Global};
 
 // How many bytes a term takes.
 pub const TERM_BYTES: usize = 3 + WIDTH;
 
-// What stands at the front of some bytes.
-#[derive(Clone, Copy)]
-pub enum Front<'a> {
-    // A term, and the bytes behind it.
-    Term(Term, &'a [u8]),
-    // The byte of a term, and too few bytes for it.
-    Cut,
-    // Another byte, or none.
-    Other,
-}
+// The byte of a term, and too few bytes behind it.
+#[derive(Clone, Copy, PartialEq, Eq, Debug)]
+pub struct Cut;
 
-pub fn read_term(input: &[u8]) -> Front<'_>
+// The term at the front of some bytes and the bytes behind it, or nothing where they begin with no term.
+pub fn read_term(input: &[u8]) -> Result<Option<(Term, &[u8])>, Cut>
     ensures { ReadsTerm input.now result }
 {
     match input {
-        [0x01, high, low, behind @ ..] => {
-            if behind.len() < WIDTH {
-                return Front::Cut;
-            }
-            let (front, rest) = behind.split_at(WIDTH);
-            let mut exponents = [0; WIDTH];
-            exponents.copy_from_slice(front);
-            let monomial = Monomial { exponents };
-            let coefficient = u16::from_be_bytes([*high, *low]);
+        [0x01, high, low, a, b, c, d, e, f, behind @ ..] => {
             let term = Term {
-                coefficient,
-                monomial,
+                coefficient: u16::from_be_bytes([*high, *low]),
+                monomial: Monomial {
+                    exponents: [*a, *b, *c, *d, *e, *f],
+                },
             };
-            Front::Term(term, rest)
+            Ok(Some((term, behind)))
         }
-        [0x01, ..] => Front::Cut,
-        [_, ..] => Front::Other,
-        [] => Front::Other,
+        [0x01, ..] => Err(Cut),
+        _ => Ok(None),
     }
 }
 
@@ -52,11 +40,8 @@ pub fn term_bytes(term: &Term) -> [u8; TERM_BYTES]
     ensures { result ≡ term_bytes term.now }
 {
     let [high, low] = term.coefficient.to_be_bytes();
-    let mut bytes = [0x01; TERM_BYTES];
-    bytes[1] = high;
-    bytes[2] = low;
-    bytes[3..].copy_from_slice(&term.monomial.exponents);
-    bytes
+    let [a, b, c, d, e, f] = term.monomial.exponents;
+    [0x01, high, low, a, b, c, d, e, f]
 }
 
 // A run of terms, and the bytes behind it.
@@ -75,6 +60,14 @@ pub enum NoRun {
     Memory,
 }
 
+impl<T: Drop> From<AllocFailed<T>> for NoRun {
+    ghost from_gives = { λ _ why. why ≡ Memory };
+
+    fn from(_failed: AllocFailed<T>) -> NoRun {
+        NoRun::Memory
+    }
+}
+
 // The terms at the front, up to the first byte that begins no term.
 pub fn read_run(heap: Global, input: &[u8]) -> Result<Run<'_>, NoRun>
     ensures run { ReadsRun input.now result }
@@ -82,18 +75,13 @@ pub fn read_run(heap: Global, input: &[u8]) -> Result<Run<'_>, NoRun>
 {
     let mut terms = Vec::new(heap);
     let mut rest = input;
-    loop {
-        match read_term(rest) {
-            Front::Term(term, behind) => {
-                if terms.push(term).is_err() {
-                    return Err(NoRun::Memory);
-                }
-                rest = behind;
-            }
-            Front::Other => return Ok(Run { terms, rest }),
-            Front::Cut => return Err(NoRun::Cut(input.len() - rest.len())),
-        }
+    while let Some((term, behind)) = read_term(rest).map_err(|_| NoRun::Cut(
+        input.len() - rest.len(),
+    ))? {
+        terms.push(term)?;
+        rest = behind;
     }
+    Ok(Run { terms, rest })
 }
 
 // Too few bytes were lent.
@@ -110,6 +98,7 @@ pub fn write_terms(terms: &[Term], out: &mut [u8]) -> Result<usize, Short>
     if out.len() < needed {
         return Err(Short { needed });
     }
+    // By place: a proof would know nothing of the bytes behind `chunks_exact_mut`.
     for (i, term) in terms.iter().enumerate() {
         let at = i * TERM_BYTES;
         out[at..at + TERM_BYTES].copy_from_slice(&term_bytes(term));

@@ -1,5 +1,4 @@
-use Rattle.std.proofs.Common.{◌≡◌, ◌*◌, ◌/◌, ◌%◌, ◌^◌, ◌<◌, ap, ◌∙◌, mod-lt, mod-eq_of_lt, mul-one, arith}
-use native.Mathlib.Nat.{pow-zero}
+use Rattle.std.proofs.Common.{◌≡◌, ◌*◌, ◌/◌, ◌%◌, ◌^◌, ◌<◌, mod-lt, arith}
 use Rattle.field.specs.Remainders.{even_turn, odd_turn}
 use Rattle.field.proofs.prime.power.Goals as goal
 use Rattle.field.proofs.prime.power.Goals.{then-left-eq1, else-left-eq1}
@@ -20,12 +19,3 @@ loop-left-preserved c =
       | else-left-eq1 w ↦ (let t = even_turn r s n p (omega (arith, w.if-left-eq1.false)) in cc (t, w.answer-is))
     ] in
     (below, mod-lt _ pos, omega (arith, turn, c.loop-left.invariant.2))
-
-pub returns : goal.returns
-returns c =
-    let r = c.loop-left.answer in
-    let s = c.loop-left.square in
-    let done : c.loop-left.left ≡ 0 = omega arith in
-    let last : r * s ^ c.loop-left.left ≡ r = ap (λ k. r * s ^ k) done ∙ ap (λ x. r * x) (pow-zero s) ∙ mul-one r in
-    let small = mod-eq_of_lt c.loop-left.invariant.0 in
-    cc (last, small, c.loop-left.invariant.2)

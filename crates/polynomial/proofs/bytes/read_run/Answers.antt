@@ -1,39 +1,36 @@
-use Rattle.std.proofs.Common.{ℕ, ◌-◌, length, Err, vec_items, sym, ◌∙◌, arith}
+use Rattle.std.proofs.Common.{◌≡◌, ◌-◌, ◌++◌, length, vec_items, Err, sym, ◌∙◌, arith, rules}
+use Rattle.monomial.specs.Monomial.{Wide}
+use Rattle.polynomial.specs.Polynomial.{exponents}
+use Rattle.polynomial.specs.Bytes.{term_bytes}
 use Rattle.polynomial.specs.declared.bytes.NoRun.TheVariants.{Cut as CutAt}
-use Rattle.polynomial.specs.Reading.{IsRun, IsCut}
-use Rattle.polynomial.proofs.Codec.{run_start, run_more, run_within, behind_shorter, pushed_term, run_once, reads_back}
+use Rattle.polynomial.specs.Reading.{IsCut, StartsNoTerm}
+use Rattle.polynomial.proofs.Codec.{run_more, run_once, run_within, reads_back}
 use Rattle.polynomial.proofs.bytes.read_run.Goals as goal
 
-pub loop-term-init : goal.loop-term-init
-loop-term-init c = run_start c.args.input.now (vec_items c.new-terms.result) c.new-terms.ensures.items
-
-pub loop-term-smaller : goal.loop-term-smaller
-loop-term-smaller c = behind_shorter c.loop-term.rest.now c.in-Term.behind.now c.in-Term.term c.in-Term.ensures.1
-
-pub loop-term-preserved : goal.loop-term-preserved
-loop-term-preserved c = run_more c.args.input.now c.loop-term.rest.now c.in-Term.behind.now (vec_items c.loop-term.terms) (vec_items c.push.new.self) c.in-Term.term c.loop-term.invariant c.in-Term.ensures (pushed_term (vec_items c.loop-term.terms) (vec_items c.push.new.self) c.in-Term.term c.push.result c.push.ensures.items c.if-is_err.ensures.negation)
-
-pub overflow_sub-result : goal.overflow_sub-result
-overflow_sub-result c = omega (arith, run_within c.args.input.now c.loop-term.rest.now (vec_items c.loop-term.terms) c.loop-term.invariant.1)
-
-pub returns-in-Other : goal.returns-in-Other
-returns-in-Other c =
+pub returns-in_err-term : goal.returns-in_err-term
+returns-in_err-term c =
     let bytes = c.args.input.now in
-    let f = vec_items c.loop-term.terms in
-    let h : IsRun bytes f c.loop-term.rest.now = record { wide = c.loop-term.invariant.0; written = c.loop-term.invariant.1; ends = c.in-Other.ensures } in
-    record { run = h; back = λ g rest k. run_once c.loop-term.rest.now rest k.ends f g h.wide k.wide h.ends (sym h.written ∙ k.written) }
-
-pub returns-in-Cut : goal.returns-in-Cut
-returns-in-Cut c =
-    let bytes = c.args.input.now in
-    let f = vec_items c.loop-term.terms in
-    let offset : ℕ = length bytes - length c.loop-term.rest.now in
-    let h : IsCut bytes offset = record {
+    let left = c.loop-terms.rest.now in
+    let f = vec_items c.loop-terms.terms in
+    let why = c.in_err-term.field-0.0 in
+    let at : why ≡ CutAt (length bytes - length left) = search rules in
+    let answer : c.from_residual.result ≡ Err why = search rules in
+    let h : IsCut bytes (length bytes - length left) = record {
       terms = f;
-      wide = c.loop-term.invariant.0;
-      rest = c.loop-term.rest.now;
-      written = c.loop-term.invariant.1;
-      place = omega (arith, run_within bytes c.loop-term.rest.now f c.loop-term.invariant.1);
-      ends = c.in-Cut.ensures;
+      wide = c.loop-terms.invariant.0;
+      rest = left;
+      written = c.loop-terms.invariant.1;
+      place = omega (arith, run_within bytes left f c.loop-terms.invariant.1);
+      ends = search rules;
     } in
-    record { run = h; back = λ g rest k. reads_back bytes rest g (Err (CutAt offset)) h k }
+    rw (answer, at) (record { run = h; back = λ g rest k. reads_back bytes rest g (Err (CutAt (length bytes - length left))) h k })
+
+pub loop-terms-preserved : goal.loop-terms-preserved
+loop-terms-preserved c =
+    let here : Wide (exponents c.in-Some.term) × (c.loop-terms.rest.now ≡ term_bytes c.in-Some.term ++ c.in-Some.behind.now) = search rules in
+    run_more c.args.input.now c.loop-terms.rest.now c.in-Some.behind.now (vec_items c.loop-terms.terms) (vec_items c.push.new.self) c.in-Some.term c.loop-terms.invariant here (search rules)
+
+pub returns-clause-back : goal.returns-clause-back
+returns-clause-back c =
+    let ends : StartsNoTerm c.loop-terms.rest.now = search rules in
+    λ f rest k. run_once c.loop-terms.rest.now rest k.ends (vec_items c.loop-terms.terms) f c.loop-terms.invariant.0 k.wide ends (sym c.loop-terms.invariant.1 ∙ k.written)

@@ -1,9 +1,5 @@
-use Rattle.monomial.specs.Divisions.{janet_groups, not_asked, told}
+use Rattle.monomial.specs.Divisions.{janet_groups, told}
 use Rattle.monomial.proofs.janet.JanetDivision.multiplicative.Goals as goal
-
-pub returns-in_err-u : goal.returns-in_err-u
-returns-in_err-u c =
-    not_asked janet_groups c.args.list.now c.args.member c.args.variable c.from_residual.result c.in_err-u.ensures c.from_residual.ensures
 
 pub returns : goal.returns
 returns c =

@@ -1,19 +1,9 @@
 use Rattle.std.proofs.Common.{◌≡◌, suc, ◌+◌, [], get_or, drop, Some, None, Err, sym, ap, ◌∙◌, add-one, arith, rules}
 use Rattle.std.proofs.lemmas.List.{drop_all}
-use Rattle.polynomial.specs.declared.refusal.Refusal.TheVariants.{TooManyTerms}
 use Rattle.polynomial.specs.Polynomial.{term}
 use Rattle.polynomial.specs.Check.{fault, faults, outcome}
-use Rattle.polynomial.proofs.Checking.{faults_more, fault_short, fault_long, accepts, refused, granted}
+use Rattle.polynomial.proofs.Checking.{faults_more, fault_short, accepts, refused, granted}
 use Rattle.polynomial.proofs.ring.Ring.check.Goals as goal
-
-pub returns-then-terms-gt-MOST_TERMS : goal.returns-then-terms-gt-MOST_TERMS
-returns-then-terms-gt-MOST_TERMS g c =
-    let F = g.F.Field.meaning c.args.self.now.field in
-    let O = g.O.Order.meaning c.args.self.now.order in
-    let n = c.args.self.now.variables in
-    let f = c.args.terms.now in
-    let e : Some TooManyTerms ≡ fault F O n f = sym (fault_long F O n f (omega arith)) in
-    record { first = ap outcome e; accepts = accepts F O n f (Some TooManyTerms) e }
 
 pub returns-in_err-check_term : goal.returns-in_err-check_term
 returns-in_err-check_term g c =
