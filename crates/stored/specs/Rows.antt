@@ -33,7 +33,7 @@ Fails comes (Bad why at) = comes (bad why at)
 Fails comes Memory = Unit {0}
 
 module _ (F : FieldMeaning) (O : Compare) (n : ℕ) where
-  -- the row r stands at the front: what the file comes to behind it, it comes to here
+  -- the row that was found stands at the front: what the file comes to behind it, it comes to here
   pub record IsFound (before : List Poly) (rest : Rest) (found : Found) : Type 0 where
     pub comes : (o : Outcome) → Reads F O n (file_length rest) (before ++ (vec_items found.row.terms ∷ [])) found.behind.bytes.now o → Reads F O n (file_length rest) before rest.bytes.now o
     pub file : file_length found.behind ≡ file_length rest
