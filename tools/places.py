@@ -16,7 +16,7 @@ LINES = {
     "flag": r"^\s*(pub(\(crate\))? )?\w+: bool,$",
     "number": r"\b(number|order|division|kind|code): u8\b|\.(order|kind|division) \{$|\b(kind|code|division) == |refuse\(heap, \d|, 1[567]\)|granted\(at, \d|denied\(at, \d|write_shown\(heap, out, at, \d",
     "loop": r"\bfor \w+ in .*\.\.|\bwhile\b|\bloop \{",
-    "by-hand": r"\bfn (is_same|agree|compare_exponents|compare_from_last|is_among|either|digit|describe\w*|\w+_name|refusal_of|run_fault|order_name|cap|decode|count|byte)\b|\bas (usize|u64|u16)\b|\.copy_from_slice\(",
+    "by-hand": r"\bfn (is_same|agree|compare_exponents|compare_from_last|is_among|either|digit|describe\w*|\w+_name|refusal_of|run_fault|cap|decode|count|byte|write_(power|factor|powers|term|polynomial|variable|variables|row|rows|setting))\b|\bas (usize|u64|u16)\b|\.copy_from_slice\(",
     "arrays": r"Vec<Vec<|: Vec<usize>|leaders: Vec<|fn place_of|for prime in PRIMES|spare: Vec<",
     "switch": r"\btrait Work\b|impl.* Work\b|\bdyn\b|fn\(\w",
 }
