@@ -73,14 +73,17 @@ bounded_from_places b m w a = each_variable (λ h. slice_index m h ≤ b) a (λ 
 pub not_bounded : (b : ℕ) (m : List ℕ) (i : ℕ) → b < slice_index m i → Bounded b m → ⊥
 not_bounded b m i h d = let k : slice_index_or m i 0 ≤ b = rw (low i) at (d (suc i)) in omega arith
 
--- what a loop over the places makes of a product and of a quotient
+-- what is made place by place as a product and as a quotient
 pub product_from_places : (a b p : List ℕ) → Wide a → Wide b → Wide p → ((h : ℕ) → h < width → slice_index p h ≡ slice_index a h + slice_index b h) → p ≡ times a b
 product_from_places a b p wa wb wp each =
     agree_all p (times a b) (wp ∙ sym (length_times a b (wa ∙ sym wb) ∙ wb)) (λ h l. each h (omega arith) ∙ sym (at_times a b (wa ∙ sym wb) h))
 
-pub quotient_from_places : (m u p : List ℕ) → Wide m → Wide u → Wide p → ((h : ℕ) → h < width → slice_index p h ≡ slice_index m h - slice_index u h) → p ≡ quotient m u
-quotient_from_places m u p wm wu wp each =
+pub quotient_from_differences : (m u p : List ℕ) → Wide m → Wide u → Wide p → ((h : ℕ) → h < width → slice_index p h ≡ slice_index m h - slice_index u h) → p ≡ quotient m u
+quotient_from_differences m u p wm wu wp each =
     agree_all p (quotient m u) (wp ∙ sym (length_quotient m u (wm ∙ sym wu) ∙ wm)) (λ h l. each h (omega arith) ∙ sym (at_quotient m u (wm ∙ sym wu) h))
+
+pub quotient_from_places : (m u p : List ℕ) → Wide m → Wide u → Wide p → ((h : ℕ) → h < width → slice_index p h + slice_index u h ≡ slice_index m h) → p ≡ quotient m u
+quotient_from_places m u p wm wu wp each = quotient_from_differences m u p wm wu wp (λ h l. omega (arith, each h l))
 
 -- u divides m exactly where each pair of their exponents is in order
 abbrev ordered : List ℕ → List ℕ → Bool
