@@ -45,7 +45,7 @@ pub(crate) struct Operands {
 fn refuse(heap: Global, number: u8, out: &mut Vec<u8>) -> Result<(), AllocError>
     ensures { OnOk result ((rest : List ℕ) → Appends out.old.items out.new.items (Starts rest (refused number))) }
 {
-    write_making(heap, out, number)
+    write_making(out, number)
 }
 
 // The line of the making, and what the commands after it write, on a new sheet.
@@ -66,7 +66,7 @@ fn run<C: Calls>(
     };
     let mut terms = vec![in heap; zero; MOST_TERMS]?;
     let mut bytes = vec![in heap; 0u8; MOST_BYTES]?;
-    write_making(heap, out, 0)?;
+    write_making(out, 0)?;
     play(heap, sheet, &mut terms, &mut bytes, input, out)
 }
 

@@ -51,7 +51,7 @@ fn do_add<C: Calls>(
 {
     let answer = sheet.add(gathered.as_slice());
     gathered.clear();
-    write_added(heap, out, at, answer)
+    write_added(out, at, answer)
 }
 
 fn repeat_step<C: Calls>(sheet: &mut C, count: u16) -> Stepped
@@ -95,7 +95,7 @@ fn do_steps<C: Calls>(
     ensures acts { OnOk result ((g : Poly) → Sound (C.Calls.setting sheet.old) (C.Calls.state sheet.old) → Acts (C.Calls.setting sheet.old) (C.Calls.state sheet.old) g at 3 ops.now (C.Calls.state sheet.new) g out.old.items out.new.items) }
 {
     let steps = repeat_step(sheet, u16::from_be_bytes([ops[0], ops[1]]));
-    write_steps(heap, out, at, steps)
+    write_steps(out, at, steps)
 }
 
 fn do_remainder<C: Calls>(
@@ -112,7 +112,7 @@ fn do_remainder<C: Calls>(
 {
     let answer = sheet.remainder(gathered.as_slice(), terms);
     gathered.clear();
-    write_shown(heap, out, at, 4, answer, terms)
+    write_shown(out, at, 4, answer, terms)
 }
 
 fn do_row<C: Calls>(
@@ -127,7 +127,7 @@ fn do_row<C: Calls>(
     ensures acts { OnOk result ((g : Poly) → Sound (C.Calls.setting sheet.now) (C.Calls.state sheet.now) → Acts (C.Calls.setting sheet.now) (C.Calls.state sheet.now) g at 5 ops.now (C.Calls.state sheet.now) g out.old.items out.new.items) }
 {
     let answer = sheet.row(ops[0] as usize, terms);
-    write_shown(heap, out, at, 5, answer, terms)
+    write_shown(out, at, 5, answer, terms)
 }
 
 fn do_fair_copy<C: Calls>(
@@ -142,7 +142,7 @@ fn do_fair_copy<C: Calls>(
     ensures acts { OnOk result ((g : Poly) → Sound (C.Calls.setting sheet.old) (C.Calls.state sheet.old) → Acts (C.Calls.setting sheet.old) (C.Calls.state sheet.old) g at 6 [] (C.Calls.state sheet.new) g out.old.items out.new.items) }
 {
     let answer = sheet.fair_copy(bytes);
-    write_copied(heap, out, at, answer, bytes)
+    write_copied(out, at, answer, bytes)
 }
 
 fn do_verdict<C: Calls>(
@@ -154,7 +154,7 @@ fn do_verdict<C: Calls>(
     ensures acts { OnOk result ((g : Poly) → Sound (C.Calls.setting sheet.now) (C.Calls.state sheet.now) → Acts (C.Calls.setting sheet.now) (C.Calls.state sheet.now) g at 7 [] (C.Calls.state sheet.now) g out.old.items out.new.items) }
 {
     let answer = sheet.verdict();
-    write_judged(heap, out, at, answer)
+    write_judged(out, at, answer)
 }
 
 fn act<C: Calls>(
@@ -201,14 +201,14 @@ pub(crate) fn play<C: Calls>(
     loop {
         match next(rest) {
             Err(fault) => match fault {
-                Fault::Unknown(byte) => return write_refused(heap, out, at, byte, 15),
-                Fault::Short(byte) => return write_refused(heap, out, at, byte, 16),
+                Fault::Unknown(byte) => return write_refused(out, at, byte, 15),
+                Fault::Short(byte) => return write_refused(out, at, byte, 16),
             },
             Ok(found) => match found {
                 None => return Ok(()),
                 Some((command, after)) => {
                     if let Command::Sheet(_) = command {
-                        return write_refused(heap, out, at, 0, 17);
+                        return write_refused(out, at, 0, 17);
                     }
                     act(heap, sheet, &mut gathered, terms, bytes, command, at, out)?;
                     at += rest.len() - after.len();

@@ -7,9 +7,9 @@ ghost use Rattle.replay.specs.Words.{answered, shown, copied, stepped, refused_l
 
 use calls::answer::Copied;
 use calls::refusal::Refusal;
-use lines::{Fields, write_bytes_line, write_count_line, write_line, write_terms_line};
+use lines::{Line, More};
 use polynomial::term::Term;
-use std::alloc::{AllocError, Global};
+use std::alloc::AllocError;
 
 // How many steps were granted, and what denied the next one.
 #[derive(Clone, Copy)]
@@ -18,30 +18,31 @@ pub(crate) struct Stepped {
     pub(crate) denial: Option<Refusal>,
 }
 
-fn granted(at: usize, byte: u8, value: usize) -> Fields
-    ensures { result ≡ record { at = at; byte = byte; number = 0; value = value } }
+fn granted<'a>(at: usize, byte: u8, value: usize, more: More<'a>) -> Line<'a>
+    ensures { result ≡ record { at = at; byte = byte; number = 0; value = value; more = more.entry } }
 {
-    Fields {
+    Line {
         at,
         byte,
         number: 0,
         value,
+        more,
     }
 }
 
-fn denied(at: usize, byte: u8, refusal: Refusal) -> Fields
-    ensures { result ≡ record { at = at; byte = byte; number = (told refusal).number; value = (told refusal).place } }
+fn denied<'a>(at: usize, byte: u8, refusal: Refusal, more: More<'a>) -> Line<'a>
+    ensures { result ≡ record { at = at; byte = byte; number = (told refusal).number; value = (told refusal).place; more = more.entry } }
 {
-    Fields {
+    Line {
         at,
         byte,
         number: refusal.number(),
         value: refusal.place(),
+        more,
     }
 }
 
 pub(crate) fn write_added(
-    heap: Global,
     out: &mut Vec<u8>,
     at: usize,
     answer: Result<usize, Refusal>,
@@ -49,13 +50,12 @@ pub(crate) fn write_added(
     ensures { OnOk result (out.new.items ≡ out.old.items ++ answered at 2 (added answer)) }
 {
     match answer {
-        Ok(value) => write_line(heap, out, granted(at, 2, value)),
-        Err(refusal) => write_line(heap, out, denied(at, 2, refusal)),
+        Ok(value) => granted(at, 2, value, More::Nothing).write_to(out),
+        Err(refusal) => denied(at, 2, refusal, More::Nothing).write_to(out),
     }
 }
 
 pub(crate) fn write_judged(
-    heap: Global,
     out: &mut Vec<u8>,
     at: usize,
     answer: Result<usize, Refusal>,
@@ -63,13 +63,12 @@ pub(crate) fn write_judged(
     ensures { OnOk result (out.new.items ≡ out.old.items ++ answered at 7 (judged answer)) }
 {
     match answer {
-        Ok(value) => write_line(heap, out, granted(at, 7, value)),
-        Err(refusal) => write_line(heap, out, denied(at, 7, refusal)),
+        Ok(value) => granted(at, 7, value, More::Nothing).write_to(out),
+        Err(refusal) => denied(at, 7, refusal, More::Nothing).write_to(out),
     }
 }
 
 pub(crate) fn write_shown(
-    heap: Global,
     out: &mut Vec<u8>,
     at: usize,
     byte: u8,
@@ -80,13 +79,12 @@ pub(crate) fn write_shown(
     ensures { OnOk result (out.new.items ≡ out.old.items ++ shown at byte (wrote answer) terms.now) }
 {
     match answer {
-        Ok(n) => write_terms_line(heap, out, granted(at, byte, n), &terms[0..n]),
-        Err(refusal) => write_line(heap, out, denied(at, byte, refusal)),
+        Ok(n) => granted(at, byte, n, More::Terms(&terms[0..n])).write_to(out),
+        Err(refusal) => denied(at, byte, refusal, More::Nothing).write_to(out),
     }
 }
 
 pub(crate) fn write_copied(
-    heap: Global,
     out: &mut Vec<u8>,
     at: usize,
     answer: Result<Copied, Refusal>,
@@ -98,43 +96,38 @@ pub(crate) fn write_copied(
     match answer {
         Ok(done) => {
             let n = done.bytes;
-            write_bytes_line(heap, out, granted(at, 6, done.rows), &bytes[0..n])
+            granted(at, 6, done.rows, More::Bytes(&bytes[0..n])).write_to(out)
         }
-        Err(refusal) => write_line(heap, out, denied(at, 6, refusal)),
+        Err(refusal) => denied(at, 6, refusal, More::Nothing).write_to(out),
     }
 }
 
-pub(crate) fn write_steps(
-    heap: Global,
-    out: &mut Vec<u8>,
-    at: usize,
-    steps: Stepped,
-) -> Result<(), AllocError>
+pub(crate) fn write_steps(out: &mut Vec<u8>, at: usize, steps: Stepped) -> Result<(), AllocError>
     ensures { OnOk result (out.new.items ≡ out.old.items ++ stepped at steps.granted (option_map told steps.denial)) }
 {
     let count = steps.granted;
     match steps.denial {
-        None => write_line(heap, out, granted(at, 3, count)),
-        Some(refusal) => write_count_line(heap, out, denied(at, 3, refusal), count),
+        None => granted(at, 3, count, More::Nothing).write_to(out),
+        Some(refusal) => denied(at, 3, refusal, More::Count(count)).write_to(out),
     }
 }
 
 // The line of the making: number 0 where the sheet is made.
-pub(crate) fn write_making(heap: Global, out: &mut Vec<u8>, number: u8) -> Result<(), AllocError>
+pub(crate) fn write_making(out: &mut Vec<u8>, number: u8) -> Result<(), AllocError>
     ensures { OnOk result (out.new.items ≡ out.old.items ++ line 0 0 number 0 []) }
 {
-    let fields = Fields {
+    let line = Line {
         at: 0,
         byte: 0,
         number,
         value: 0,
+        more: More::Nothing,
     };
-    write_line(heap, out, fields)
+    line.write_to(out)
 }
 
 // A command that is not carried out.
 pub(crate) fn write_refused(
-    heap: Global,
     out: &mut Vec<u8>,
     at: usize,
     byte: u8,
@@ -142,14 +135,16 @@ pub(crate) fn write_refused(
 ) -> Result<(), AllocError>
     ensures { OnOk result (out.new.items ≡ out.old.items ++ refused_line at byte number) }
 {
-    let fields = Fields {
+    let line = Line {
         at,
         byte,
         number,
         value: at,
+        more: if byte == 3 {
+            More::Count(0)
+        } else {
+            More::Nothing
+        },
     };
-    if byte == 3 {
-        return write_count_line(heap, out, fields, 0);
-    }
-    write_line(heap, out, fields)
+    line.write_to(out)
 }

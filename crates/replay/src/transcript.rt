@@ -52,8 +52,8 @@ fn write(heap: Global, input: &[u8], out: &mut Vec<u8>) -> Result<(), AllocError
 {
     match next(input) {
         Err(fault) => match fault {
-            Fault::Unknown(byte) => write_refused(heap, out, 0, byte, 15),
-            Fault::Short(byte) => write_refused(heap, out, 0, byte, 16),
+            Fault::Unknown(byte) => write_refused(out, 0, byte, 15),
+            Fault::Short(byte) => write_refused(out, 0, byte, 16),
         },
         Ok(found) => match found {
             None => Ok(()),
@@ -61,7 +61,7 @@ fn write(heap: Global, input: &[u8], out: &mut Vec<u8>) -> Result<(), AllocError
                 if let Command::Sheet(ops) = command {
                     return make(heap, ops, input, out);
                 }
-                write_refused(heap, out, 0, byte(command), 17)
+                write_refused(out, 0, byte(command), 17)
             }
         },
     }
