@@ -3,6 +3,7 @@ use Rattle.std.specs.Prelude.{ℕ, ◌/◌, ◌%◌, false, List, [], ◌∷◌,
 use Rattle.std.specs.Fmt.{digit_glyph}
 use Rattle.polynomial.specs.Bytes.{poly_bytes}
 use Rattle.lines.specs.declared.More.{More}
+use Rattle.lines.specs.declared.Line.{Line}
 use Rattle.lines.specs.declared.More.TheVariants.{Nothing, Count, Bytes, Terms}
 
 -- two hexadecimal digits to a byte
@@ -33,3 +34,7 @@ more_text Nothing = []
 more_text (Count n) = count_field n
 more_text (Bytes bytes) = bytes_field bytes.now
 more_text (Terms terms) = bytes_field (poly_bytes terms.now)
+
+-- the text of a line
+abbrev pub line_text : Line → List ℕ
+line_text l = line l.at l.byte l.number l.value (more_text l.more)

@@ -3,7 +3,7 @@
 
 ghost use Rattle.std.specs.Prelude.{◌≡◌, ◌++◌, Some, OnOk};
 ghost use Rattle.polynomial.specs.Bytes.{poly_bytes};
-ghost use Rattle.lines.specs.Line.{hexed, line, more_text, fields};
+ghost use Rattle.lines.specs.Line.{hexed, fields, more_text, line_text};
 
 use polynomial::bytes::term_bytes;
 use polynomial::term::Term;
@@ -99,7 +99,7 @@ impl fmt::Display for Line<'_> {
 impl Line<'_> {
     // Adds the line at the end of a text. Writing to a Vec fails for want of memory only.
     pub fn write_to(&self, text: &mut Vec<u8>) -> Result<(), AllocError>
-        ensures { OnOk result (text.new.items ≡ text.old.items ++ line self.now.at self.now.byte self.now.number self.now.value (more_text self.now.more)) }
+        ensures { OnOk result (text.new.items ≡ text.old.items ++ line_text self.now) }
     {
         writeln!(text, "{self}").map_err(|_| AllocError)
     }

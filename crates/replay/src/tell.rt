@@ -1,19 +1,22 @@
 // The line of each answer.
-ghost use Rattle.std.specs.Prelude.{◌≡◌, ◌≤◌, [], ◌++◌, length, IfOk, OnOk};
+ghost use Rattle.std.specs.Prelude.{◌≡◌, ◌≤◌, [], length, IfOk};
 ghost use Rattle.std.specs.Option.{option_map};
-ghost use Rattle.calls.specs.Told.{told, added, wrote, copied as copied_as, judged};
-ghost use Rattle.lines.specs.Line.{line};
-ghost use Rattle.replay.specs.Words.{answered, shown, copied, stepped, refused_line};
+ghost use Rattle.calls.specs.Told.{told, added, wrote, copied as copied_as};
+ghost use Rattle.lines.specs.Line.{line, line_text};
+ghost use Rattle.replay.specs.Grammar.{byte_of, fault_byte, fault_number, no_sheet_number};
+ghost use Rattle.replay.specs.Words.{answered as answered_line, shown as shown_line, copied as copied_line, stepped as stepped_line, refused_line};
 
+use crate::choose::NoSheet;
+use crate::command::{Command, Fault};
 use calls::answer::Copied;
 use calls::refusal::Refusal;
 use lines::{Line, More};
 use polynomial::term::Term;
-use std::alloc::AllocError;
+use std::alloc::{AllocError, Global};
 
 // How many steps were granted, and what denied the next one.
 #[derive(Clone, Copy)]
-pub(crate) struct Stepped {
+pub(crate) struct Steps {
     pub(crate) granted: usize,
     pub(crate) denial: Option<Refusal>,
 }
@@ -42,109 +45,107 @@ fn denied<'a>(at: usize, byte: u8, refusal: Refusal, more: More<'a>) -> Line<'a>
     }
 }
 
-pub(crate) fn write_added(
-    out: &mut Vec<u8>,
+// The line of an add or a verdict.
+pub(crate) fn answered<'a>(
     at: usize,
+    command: Command<'a>,
     answer: Result<usize, Refusal>,
-) -> Result<(), AllocError>
-    ensures { OnOk result (out.new.items ≡ out.old.items ++ answered at 2 (added answer)) }
+) -> Line<'a>
+    ensures { line_text result ≡ answered_line at (byte_of command.entry) (added answer) }
 {
     match answer {
-        Ok(value) => granted(at, 2, value, More::Nothing).write_to(out),
-        Err(refusal) => denied(at, 2, refusal, More::Nothing).write_to(out),
+        Ok(value) => granted(at, command.byte(), value, More::Nothing),
+        Err(refusal) => denied(at, command.byte(), refusal, More::Nothing),
     }
 }
 
-pub(crate) fn write_judged(
-    out: &mut Vec<u8>,
+// The line of a remainder or a row, of which the terms were written to the front of those lent.
+pub(crate) fn shown<'a>(
     at: usize,
+    command: Command<'a>,
     answer: Result<usize, Refusal>,
-) -> Result<(), AllocError>
-    ensures { OnOk result (out.new.items ≡ out.old.items ++ answered at 7 (judged answer)) }
-{
-    match answer {
-        Ok(value) => granted(at, 7, value, More::Nothing).write_to(out),
-        Err(refusal) => denied(at, 7, refusal, More::Nothing).write_to(out),
-    }
-}
-
-pub(crate) fn write_shown(
-    out: &mut Vec<u8>,
-    at: usize,
-    byte: u8,
-    answer: Result<usize, Refusal>,
-    terms: &[Term],
-) -> Result<(), AllocError>
+    terms: &'a [Term],
+) -> Line<'a>
     requires { IfOk answer (λ n. n ≤ length terms.now) }
-    ensures { OnOk result (out.new.items ≡ out.old.items ++ shown at byte (wrote answer) terms.now) }
+    ensures { line_text result ≡ shown_line at (byte_of command.entry) (wrote answer) terms.now }
 {
     match answer {
-        Ok(n) => granted(at, byte, n, More::Terms(&terms[0..n])).write_to(out),
-        Err(refusal) => denied(at, byte, refusal, More::Nothing).write_to(out),
+        Ok(n) => granted(at, command.byte(), n, More::Terms(&terms[..n])),
+        Err(refusal) => denied(at, command.byte(), refusal, More::Nothing),
     }
 }
 
-pub(crate) fn write_copied(
-    out: &mut Vec<u8>,
-    at: usize,
-    answer: Result<Copied, Refusal>,
-    bytes: &[u8],
-) -> Result<(), AllocError>
+// The line of a fair copy, of which the bytes were written to the front of those lent.
+pub(crate) fn copied<'a>(at: usize, answer: Result<Copied, Refusal>, bytes: &'a [u8]) -> Line<'a>
     requires { IfOk answer (λ c. c.bytes ≤ length bytes.now) }
-    ensures { OnOk result (out.new.items ≡ out.old.items ++ copied at (copied_as answer) bytes.now) }
+    ensures { line_text result ≡ copied_line at (copied_as answer) bytes.now }
 {
+    let byte = Command::FairCopy.byte();
     match answer {
-        Ok(done) => {
-            let n = done.bytes;
-            granted(at, 6, done.rows, More::Bytes(&bytes[0..n])).write_to(out)
-        }
-        Err(refusal) => denied(at, 6, refusal, More::Nothing).write_to(out),
+        Ok(done) => granted(at, byte, done.rows, More::Bytes(&bytes[..done.bytes])),
+        Err(refusal) => denied(at, byte, refusal, More::Nothing),
     }
 }
 
-pub(crate) fn write_steps(out: &mut Vec<u8>, at: usize, steps: Stepped) -> Result<(), AllocError>
-    ensures { OnOk result (out.new.items ≡ out.old.items ++ stepped at steps.granted (option_map told steps.denial)) }
+// The line of steps.
+pub(crate) fn stepped<'a>(at: usize, command: Command<'a>, steps: Steps) -> Line<'a>
+    ensures { byte_of command.entry ≡ 3 → line_text result ≡ stepped_line at steps.granted (option_map told steps.denial) }
 {
     let count = steps.granted;
     match steps.denial {
-        None => granted(at, 3, count, More::Nothing).write_to(out),
-        Some(refusal) => denied(at, 3, refusal, More::Count(count)).write_to(out),
+        None => granted(at, command.byte(), count, More::Nothing),
+        Some(refusal) => denied(at, command.byte(), refusal, More::Count(count)),
     }
 }
 
 // The line of the making: number 0 where the sheet is made.
-pub(crate) fn write_making(out: &mut Vec<u8>, number: u8) -> Result<(), AllocError>
-    ensures { OnOk result (out.new.items ≡ out.old.items ++ line 0 0 number 0 []) }
+fn making_line<'a>(number: u8) -> Line<'a>
+    ensures { line_text result ≡ line 0 0 number 0 [] }
 {
-    let line = Line {
+    Line {
         at: 0,
         byte: 0,
         number,
         value: 0,
         more: More::Nothing,
-    };
-    line.write_to(out)
+    }
 }
 
-// A command that is not carried out.
-pub(crate) fn write_refused(
-    out: &mut Vec<u8>,
-    at: usize,
-    byte: u8,
-    number: u8,
-) -> Result<(), AllocError>
-    ensures { OnOk result (out.new.items ≡ out.old.items ++ refused_line at byte number) }
+pub(crate) fn made<'a>() -> Line<'a>
+    ensures { line_text result ≡ line 0 0 0 0 [] }
 {
-    let line = Line {
+    making_line(0)
+}
+
+pub(crate) fn not_made<'a>(reason: NoSheet) -> Line<'a>
+    ensures { line_text result ≡ line 0 0 (no_sheet_number reason) 0 [] }
+{
+    making_line(reason.number())
+}
+
+// The line of a command that is not carried out.
+pub(crate) fn refused<'a>(at: usize, fault: Fault) -> Line<'a>
+    ensures { line_text result ≡ refused_line at (fault_byte fault) (fault_number fault) }
+{
+    let byte = fault.byte();
+    Line {
         at,
         byte,
-        number,
+        number: fault.number(),
         value: at,
         more: if byte == 3 {
             More::Count(0)
         } else {
             More::Nothing
         },
-    };
-    line.write_to(out)
+    }
+}
+
+// A text of one line.
+pub(crate) fn text_of(heap: Global, line: Line<'_>) -> Result<Vec<u8>, AllocError>
+    ensures { IfOk result (λ text. text.items ≡ line_text line.entry) }
+{
+    let mut text = Vec::new(heap);
+    line.write_to(&mut text)?;
+    Ok(text)
 }
