@@ -95,11 +95,9 @@ fn start<F: Field + Drop, O: Order + Drop, D: Division + Drop>(
 {
     match Sheet::new(heap, field, order, division, variables) {
         Ok(mut sheet) => run(heap, &mut sheet, rest),
-        Err(unmade) => match unmade {
-            // The number of variables was checked before.
-            Unmade::Variables => refuse(heap, NoSheet::Variables),
-            Unmade::Memory => Err(AllocError),
-        },
+        // The number of variables was checked before.
+        Err(Unmade::Variables) => refuse(heap, NoSheet::Variables),
+        Err(Unmade::Memory) => Err(AllocError),
     }
 }
 

@@ -63,6 +63,7 @@ fn repeat_step<C: Calls>(sheet: &mut C, count: u16) -> Steps
                 granted,
                 denial: Some(refusal),
             },
+            // A match of its own, and an arm each: of a nested or a joint pattern a proof does not know afterwards which step it was.
             Ok(step) => match step {
                 Step::Closed => return Steps {
                     granted,
@@ -136,7 +137,7 @@ impl Replay {
         ensures acts { OnOk result (Sound (C.Calls.setting sheet.old) (C.Calls.state sheet.old) → Acts (C.Calls.setting sheet.old) (C.Calls.state sheet.old) self.old.gathered.items at 3 operands.now (C.Calls.state sheet.new) self.new.gathered.items self.old.text.items self.new.text.items) }
     {
         let steps = repeat_step(sheet, u16::from_be_bytes(*operands));
-        stepped(at, Command::Steps(operands), steps).write_to(&mut self.text)
+        stepped(at, operands, steps).write_to(&mut self.text)
     }
 
     fn remainder<C: Calls>(&mut self, sheet: &mut C, at: usize) -> Result<(), AllocError>
@@ -200,13 +201,11 @@ impl Replay {
         loop {
             let at = SHEET_BYTES + (input.len() - rest.len());
             match next_call(rest) {
-                Ok(found) => match found {
-                    Some((command, behind)) => {
-                        self.act(sheet, command, at)?;
-                        rest = behind;
-                    }
-                    None => return Ok(()),
-                },
+                Ok(None) => return Ok(()),
+                Ok(Some((command, behind))) => {
+                    self.act(sheet, command, at)?;
+                    rest = behind;
+                }
                 Err(fault) => return refused(at, fault).write_to(&mut self.text),
             }
         }

@@ -14,6 +14,9 @@ use lines::{Line, More};
 use polynomial::term::Term;
 use std::alloc::{AllocError, Global};
 
+// The byte of the steps command.
+const STEPS: u8 = 3;
+
 // How many steps were granted, and what denied the next one.
 #[derive(Clone, Copy)]
 pub(crate) struct Steps {
@@ -88,13 +91,14 @@ pub(crate) fn copied<'a>(at: usize, answer: Result<Copied, Refusal>, bytes: &'a 
 }
 
 // The line of steps.
-pub(crate) fn stepped<'a>(at: usize, command: Command<'a>, steps: Steps) -> Line<'a>
-    ensures { byte_of command.entry ≡ 3 → line_text result ≡ stepped_line at steps.granted (option_map told steps.denial) }
+pub(crate) fn stepped<'a>(at: usize, operands: &'a [u8; 2], steps: Steps) -> Line<'a>
+    ensures { line_text result ≡ stepped_line at steps.granted (option_map told steps.denial) }
 {
+    let byte = Command::Steps(operands).byte();
     let count = steps.granted;
     match steps.denial {
-        None => granted(at, command.byte(), count, More::Nothing),
-        Some(refusal) => denied(at, command.byte(), refusal, More::Count(count)),
+        None => granted(at, byte, count, More::Nothing),
+        Some(refusal) => denied(at, byte, refusal, More::Count(count)),
     }
 }
 
@@ -133,7 +137,8 @@ pub(crate) fn refused<'a>(at: usize, fault: Fault) -> Line<'a>
         byte,
         number: fault.number(),
         value: at,
-        more: if byte == 3 {
+        // Refused steps tell that none was granted.
+        more: if byte == STEPS {
             More::Count(0)
         } else {
             More::Nothing

@@ -19,14 +19,10 @@ fn write(heap: Global, input: &[u8]) -> Result<Vec<u8>, AllocError>
     ensures { IfOk result (λ text. Transcript input.now text.items) }
 {
     match next(input) {
-        Ok(found) => match found {
-            None => Ok(Vec::new(heap)),
-            Some((command, rest)) => {
-                if let Command::Sheet(bytes) = command {
-                    return start_by_field(heap, Operands::read(bytes), rest);
-                }
-                text_of(heap, refused(0, Fault::Misplaced(command.byte())))
-            }
+        Ok(None) => Ok(Vec::new(heap)),
+        Ok(Some((command, rest))) => match command {
+            Command::Sheet(bytes) => start_by_field(heap, Operands::read(bytes), rest),
+            _ => text_of(heap, refused(0, Fault::Misplaced(command.byte()))),
         },
         Err(fault) => text_of(heap, refused(0, fault)),
     }
