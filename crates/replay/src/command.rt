@@ -1,6 +1,5 @@
 // Commands: a byte and operands of fixed width, which are parts of the command file.
-ghost use Rattle.std.specs.Prelude.{◌≡◌, ◌<◌, ◌≤◌, length, take, drop, MatchResult};
-ghost use Rattle.replay.specs.declared.command.Fault.TheVariants.{Short as short};
+ghost use Rattle.std.specs.Prelude.{◌≡◌, ◌<◌, length, take, drop};
 ghost use Rattle.replay.specs.Grammar.{Reads, byte_of, fault_byte, fault_number};
 
 // A command and its operands, which are parts of the input.
@@ -69,39 +68,33 @@ impl Fault {
     }
 }
 
-// The operands behind the byte of a command, and the rest.
-fn operands<const N: usize>(byte: u8, behind: &[u8]) -> Result<(&[u8; N], &[u8]), Fault>
-    ensures { MatchResult result (λ p. (N ≤ length behind.now) × (p.0.now ≡ take N behind.now) × (p.1.now ≡ drop N behind.now)) (λ f. (f ≡ short byte) × (length behind.now < N)) }
+// The operands behind the byte of a command that has them all.
+fn operands<const N: usize>(input: &[u8]) -> &[u8; N]
+    requires { N < length input.now }
+    ensures { result.now ≡ take N (drop 1 input.now) }
 {
-    behind.split_first_chunk().ok_or(Fault::Short(byte))
+    input[1..].first_chunk().unwrap()
 }
 
 // The command at the front of the input, and the rest; nothing at the end of the input. No command is misplaced here.
+// The patterns take byte, operands and rest apart, a form that the project keeps (docs/DECISIONS.md, Code forms).
 pub fn next<'a>(input: &'a [u8]) -> Result<Option<(Command<'a>, &'a [u8])>, Fault>
     ensures { Reads input.now result }
 {
     match input {
         [] => Ok(None),
-        [0x00, behind @ ..] => {
-            let (bytes, rest) = operands(0x00, behind)?;
-            Ok(Some((Command::Sheet(bytes), rest)))
-        }
-        [0x01, behind @ ..] => {
-            let (bytes, rest) = operands(0x01, behind)?;
-            Ok(Some((Command::Term(bytes), rest)))
-        }
+        [0x00, _, _, _, _, _, _, rest @ ..] => Ok(Some((Command::Sheet(operands(input)), rest))),
+        [0x01, _, _, _, _, _, _, _, _, rest @ ..] => Ok(Some((
+            Command::Term(operands(input)),
+            rest,
+        ))),
         [0x02, rest @ ..] => Ok(Some((Command::Add, rest))),
-        [0x03, behind @ ..] => {
-            let (bytes, rest) = operands(0x03, behind)?;
-            Ok(Some((Command::Steps(bytes), rest)))
-        }
+        [0x03, _, _, rest @ ..] => Ok(Some((Command::Steps(operands(input)), rest))),
         [0x04, rest @ ..] => Ok(Some((Command::Remainder, rest))),
-        [0x05, behind @ ..] => {
-            let (bytes, rest) = operands(0x05, behind)?;
-            Ok(Some((Command::Row(bytes), rest)))
-        }
+        [0x05, _, rest @ ..] => Ok(Some((Command::Row(operands(input)), rest))),
         [0x06, rest @ ..] => Ok(Some((Command::FairCopy, rest))),
         [0x07, rest @ ..] => Ok(Some((Command::Verdict, rest))),
+        [0x00 | 0x01 | 0x03 | 0x05, ..] => Err(Fault::Short(input[0])),
         [other, ..] => Err(Fault::Unknown(*other)),
     }
 }

@@ -49,11 +49,11 @@ fn denied<'a>(at: usize, byte: u8, refusal: Refusal, more: More<'a>) -> Line<'a>
 }
 
 // The line of an add or a verdict.
-pub(crate) fn answered<'a>(
+pub(crate) fn answered(
     at: usize,
-    command: Command<'a>,
+    command: Command<'_>,
     answer: Result<usize, Refusal>,
-) -> Line<'a>
+) -> Line<'static>
     ensures { line_text result ≡ answered_line at (byte_of command.entry) (added answer) }
 {
     match answer {
@@ -91,7 +91,7 @@ pub(crate) fn copied<'a>(at: usize, answer: Result<Copied, Refusal>, bytes: &'a 
 }
 
 // The line of steps.
-pub(crate) fn stepped<'a>(at: usize, operands: &'a [u8; 2], steps: Steps) -> Line<'a>
+pub(crate) fn stepped(at: usize, operands: &[u8; 2], steps: Steps) -> Line<'static>
     ensures { line_text result ≡ stepped_line at steps.granted (option_map told steps.denial) }
 {
     let byte = Command::Steps(operands).byte();
@@ -103,7 +103,7 @@ pub(crate) fn stepped<'a>(at: usize, operands: &'a [u8; 2], steps: Steps) -> Lin
 }
 
 // The line of the making: number 0 where the sheet is made.
-fn making_line<'a>(number: u8) -> Line<'a>
+fn making_line(number: u8) -> Line<'static>
     ensures { line_text result ≡ line 0 0 number 0 [] }
 {
     Line {
@@ -115,20 +115,20 @@ fn making_line<'a>(number: u8) -> Line<'a>
     }
 }
 
-pub(crate) fn made<'a>() -> Line<'a>
+pub(crate) fn made() -> Line<'static>
     ensures { line_text result ≡ line 0 0 0 0 [] }
 {
     making_line(0)
 }
 
-pub(crate) fn not_made<'a>(reason: NoSheet) -> Line<'a>
+pub(crate) fn not_made(reason: NoSheet) -> Line<'static>
     ensures { line_text result ≡ line 0 0 (no_sheet_number reason) 0 [] }
 {
     making_line(reason.number())
 }
 
 // The line of a command that is not carried out.
-pub(crate) fn refused<'a>(at: usize, fault: Fault) -> Line<'a>
+pub(crate) fn refused(at: usize, fault: Fault) -> Line<'static>
     ensures { line_text result ≡ refused_line at (fault_byte fault) (fault_number fault) }
 {
     let byte = fault.byte();
