@@ -50,9 +50,7 @@ impl Fault {
         ensures { result ≡ fault_byte self.now }
     {
         match *self {
-            Fault::Unknown(byte) => byte,
-            Fault::Short(byte) => byte,
-            Fault::Misplaced(byte) => byte,
+            Fault::Unknown(byte) | Fault::Short(byte) | Fault::Misplaced(byte) => byte,
         }
     }
 

@@ -24,6 +24,7 @@ pub(crate) struct Steps {
     pub(crate) denial: Option<Refusal>,
 }
 
+// The line of a command that is granted with that value.
 fn granted<'a>(at: usize, byte: u8, value: usize, more: More<'a>) -> Line<'a>
     ensures { result ≡ record { at = at; byte = byte; number = 0; value = value; more = more.entry } }
 {
@@ -36,6 +37,7 @@ fn granted<'a>(at: usize, byte: u8, value: usize, more: More<'a>) -> Line<'a>
     }
 }
 
+// The line of a command that its call denies.
 fn denied<'a>(at: usize, byte: u8, refusal: Refusal, more: More<'a>) -> Line<'a>
     ensures { result ≡ record { at = at; byte = byte; number = (told refusal).number; value = (told refusal).place; more = more.entry } }
 {
