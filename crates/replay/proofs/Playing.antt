@@ -1,5 +1,5 @@
 -- The commands carried out so far: whatever the rest comes to, the whole comes to.
-use Rattle.std.proofs.Common.{◌≡◌, ℕ, zero, suc, ◌+◌, ◌<◌, ◌≤◌, List, [], ◌∷◌, ◌++◌, length, get_or, take, drop, Some, None, Ok, Err, Option, sym, refl, ap, ◌∙◌, subst, append_assoc, append-nil, add-one, arith, length-append, length-take-le, Bor}
+use Rattle.std.proofs.Common.{take-append-drop, ◌≡◌, ℕ, ◌+◌, ◌<◌, ◌≤◌, List, [], ◌∷◌, ◌++◌, length, get_or, take, drop, Some, None, Ok, Err, Option, sym, refl, ap, ◌∙◌, subst, append_assoc, append-nil, add-one, arith, length-append, length-take-le, Bor}
 use Rattle.replay.specs.declared.command.Command.{Command}
 use Rattle.replay.specs.declared.command.Command.TheVariants.{Sheet, Term, Add, Steps, Remainder, Row, FairCopy, Verdict}
 use Rattle.replay.specs.declared.command.Fault.{Fault}
@@ -62,11 +62,6 @@ byte_small (Row a) = omega arith
 byte_small FairCopy = omega arith
 byte_small Verdict = omega arith
 
-take_and_drop : (n : ℕ) (xs : List ℕ) → xs ≡ take n xs ++ drop n xs
-take_and_drop zero xs = refl
-take_and_drop (suc n) [] = refl
-take_and_drop (suc n) (x ∷ xs) = ap (λ ys. x ∷ ys) (take_and_drop n xs)
-
 stands : (bs : List ℕ) {b : ℕ} {ops rest : List ℕ} → b ≤ 7 → get_or bs 0 0 ≡ b → operand_bytes b < length bs → ops ≡ take (operand_bytes b) (drop 1 bs) → rest ≡ drop (operand_bytes b + 1) bs → CommandAt bs b ops rest
 stands [] k e l o r = absurd (omega (arith, l))
 stands (x ∷ bs) {b} {ops} {rest} k e l o r =
@@ -74,7 +69,7 @@ stands (x ∷ bs) {b} {ops} {rest} k e l o r =
     let t : rest ≡ drop w bs = r ∙ ap (λ n. drop n (x ∷ bs)) (add-one w) in
     record {
       known = k;
-      bytes = ap (λ y. y ∷ bs) e ∙ ap (λ ys. b ∷ ys) (take_and_drop w bs ∙ ap (λ y. y ++ drop w bs) (sym o) ∙ ap (λ y. ops ++ y) (sym t));
+      bytes = ap (λ y. y ∷ bs) e ∙ ap (λ ys. b ∷ ys) (sym (take-append-drop w bs) ∙ ap (λ y. y ++ drop w bs) (sym o) ∙ ap (λ y. ops ++ y) (sym t));
       operands = ap length o ∙ length-take-le w bs (omega (arith, l));
     }
 
