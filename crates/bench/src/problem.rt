@@ -22,29 +22,25 @@ pub(crate) struct Problem {
     pub(crate) probe: Vec<Term>,
 }
 
-fn operands_of(ops: &[u8]) -> Option<Operands> {
-    let [kind, high, low, variables, order, division] = ops else {
-        return None;
-    };
-    Some(Operands {
-        kind: *kind,
-        modulus: u16::from_be_bytes([*high, *low]),
-        variables: usize::from(*variables),
-        order: *order,
-        division: *division,
-    })
+fn operands_of(ops: &[u8; 6]) -> Operands {
+    let [kind, high, low, variables, order, division] = *ops;
+    Operands {
+        kind,
+        modulus: u16::from_be_bytes([high, low]),
+        variables: usize::from(variables),
+        order,
+        division,
+    }
 }
 
-fn term_of(ops: &[u8]) -> Option<Term> {
-    let [high, low, a, b, c, d, e, f] = ops else {
-        return None;
-    };
-    Some(Term {
-        coefficient: u16::from_be_bytes([*high, *low]),
+fn term_of(ops: &[u8; 8]) -> Term {
+    let [high, low, a, b, c, d, e, f] = *ops;
+    Term {
+        coefficient: u16::from_be_bytes([high, low]),
         monomial: Monomial {
-            exponents: [*a, *b, *c, *d, *e, *f],
+            exponents: [a, b, c, d, e, f],
         },
-    })
+    }
 }
 
 // A problem without polynomials. The operands of no sheet are refused when a sheet is to be made of them.
@@ -71,16 +67,8 @@ fn take_command(
     command: Command<'_>,
 ) -> Result<(), AllocError> {
     match command {
-        Command::Sheet(ops) => {
-            if let Some(operands) = operands_of(ops) {
-                problem.operands = operands;
-            }
-        }
-        Command::Term(ops) => {
-            if let Some(term) = term_of(ops) {
-                gathered.push(term)?;
-            }
-        }
+        Command::Sheet(ops) => problem.operands = operands_of(ops),
+        Command::Term(ops) => gathered.push(term_of(ops))?,
         Command::Add => {
             let generator = std::mem::replace(gathered, Vec::new(heap));
             problem.generators.push(generator)?;

@@ -1,18 +1,31 @@
 // The lines that a replay writes: fields in decimal and lower-case hexadecimal, one space between them.
 #![tactic(auto)]
 
-ghost use Rattle.std.specs.Prelude.{◌≡◌, ◌<◌, false, [], ◌∷◌, ◌++◌, length, codes, decimal, OnOk};
-ghost use Rattle.std.specs.Fmt.{digit_glyph};
+ghost use Rattle.std.specs.Prelude.{◌≡◌, ◌++◌, Some, OnOk};
 ghost use Rattle.polynomial.specs.Bytes.{poly_bytes};
-ghost use Rattle.lines.specs.Line.{hexed, fields, line, bytes_field, count_field};
+ghost use Rattle.lines.specs.Line.{hexed, fields, more_text, line_text};
 
 use polynomial::bytes::term_bytes;
 use polynomial::term::Term;
-use std::alloc::{AllocError, Global};
+use std::alloc::AllocError;
+use std::fmt;
+use std::io::Write;
 
-// The fields that every line has.
+// What a line has behind its four fields.
 #[derive(Clone, Copy)]
-pub struct Fields {
+pub enum More<'a> {
+    Nothing,
+    // a number more
+    Count(usize),
+    // bytes in hexadecimal; no field when there are none
+    Bytes(&'a [u8]),
+    // the bytes of a polynomial in hexadecimal; no field when it has no terms
+    Terms(&'a [Term]),
+}
+
+// An answer line.
+#[derive(Clone, Copy)]
+pub struct Line<'a> {
     // the offset of the command
     pub at: usize,
     // the byte of the command
@@ -21,134 +34,75 @@ pub struct Fields {
     pub number: u8,
     // the value, or the refusal's place
     pub value: usize,
+    pub more: More<'a>,
 }
 
-fn digit(n: u8) -> u8
-    requires { n < 16 }
-    ensures { result ≡ digit_glyph false n }
-{
-    if n < 10 { b'0' + n } else { b'a' + (n - 10) }
-}
+// Bytes, shown by two hexadecimal digits each.
+#[derive(Clone, Copy)]
+struct Hex<'a>(&'a [u8]);
 
-// Two hexadecimal digits for each byte.
-fn write_hex(out: &mut Vec<u8>, bytes: &[u8]) -> Result<(), AllocError>
-    ensures { OnOk result (out.new.items ≡ out.old.items ++ hexed bytes.now) }
-{
-    for b in bytes {
-        out.push(digit(*b / 16))?;
-        out.push(digit(*b % 16))?;
+impl fmt::Display for Hex<'_> {
+    ghost output = { λ it. Some (hexed it.0.now) };
+
+    fn fmt<W: fmt::Write>(&self, f: &mut fmt::Formatter<W>) -> fmt::Result {
+        for &byte in self.0 {
+            write!(f, "{byte:02x}")?;
+        }
+        Ok(())
     }
-    Ok(())
 }
 
-fn write_hex_terms(out: &mut Vec<u8>, terms: &[Term]) -> Result<(), AllocError>
-    ensures { OnOk result (out.new.items ≡ out.old.items ++ hexed (poly_bytes terms.now)) }
-{
-    for t in terms {
-        write_hex(out, &term_bytes(t))?;
+// Terms, shown by their bytes.
+#[derive(Clone, Copy)]
+struct HexTerms<'a>(&'a [Term]);
+
+impl fmt::Display for HexTerms<'_> {
+    ghost output = { λ it. Some (hexed (poly_bytes it.0.now)) };
+
+    fn fmt<W: fmt::Write>(&self, f: &mut fmt::Formatter<W>) -> fmt::Result {
+        for term in self.0 {
+            write!(f, "{}", Hex(&term_bytes(term)))?;
+        }
+        Ok(())
     }
-    Ok(())
 }
 
-fn write_offset(heap: Global, out: &mut Vec<u8>, at: usize) -> Result<(), AllocError>
-    ensures { OnOk result (out.new.items ≡ out.old.items ++ (decimal at ++ codes " ")) }
-{
-    let text = format!(in heap; "{at} ")?;
-    out.extend_from_slice(text.as_bytes())
-}
+impl fmt::Display for More<'_> {
+    ghost output = { λ more. Some (more_text more) };
 
-fn write_numbers(
-    heap: Global,
-    out: &mut Vec<u8>,
-    number: u8,
-    value: usize,
-) -> Result<(), AllocError>
-    ensures { OnOk result (out.new.items ≡ out.old.items ++ (codes " " ++ (decimal number ++ (codes " " ++ decimal value)))) }
-{
-    let text = format!(in heap; " {number} {value}")?;
-    out.extend_from_slice(text.as_bytes())
-}
-
-fn write_fields(heap: Global, out: &mut Vec<u8>, f: Fields) -> Result<(), AllocError>
-    ensures { OnOk result (out.new.items ≡ out.old.items ++ fields f.at f.byte f.number f.value) }
-{
-    write_offset(heap, out, f.at)?;
-    write_hex(out, &[f.byte])?;
-    write_numbers(heap, out, f.number, f.value)
-}
-
-// A line of four fields.
-pub fn write_line(heap: Global, out: &mut Vec<u8>, f: Fields) -> Result<(), AllocError>
-    ensures { OnOk result (out.new.items ≡ out.old.items ++ line f.at f.byte f.number f.value []) }
-{
-    write_fields(heap, out, f)?;
-    out.push(b'\n')?;
-    Ok(())
-}
-
-// A line with a number behind the fields.
-pub fn write_count_line(
-    heap: Global,
-    out: &mut Vec<u8>,
-    f: Fields,
-    count: usize,
-) -> Result<(), AllocError>
-    ensures { OnOk result (out.new.items ≡ out.old.items ++ line f.at f.byte f.number f.value (count_field count)) }
-{
-    write_fields(heap, out, f)?;
-    let text = format!(in heap; " {count}\n")?;
-    out.extend_from_slice(text.as_bytes())?;
-    Ok(())
-}
-
-fn write_bytes_field(out: &mut Vec<u8>, bytes: &[u8]) -> Result<(), AllocError>
-    ensures { OnOk result (out.new.items ≡ out.old.items ++ bytes_field bytes.now) }
-{
-    if bytes.len() == 0 {
-        return Ok(());
+    fn fmt<W: fmt::Write>(&self, f: &mut fmt::Formatter<W>) -> fmt::Result {
+        match *self {
+            More::Nothing | More::Bytes([]) | More::Terms([]) => Ok(()),
+            More::Count(count) => write!(f, " {count}"),
+            More::Bytes(bytes) => write!(f, " {}", Hex(bytes)),
+            More::Terms(terms) => write!(f, " {}", HexTerms(terms)),
+        }
     }
-    out.push(b' ')?;
-    write_hex(out, bytes)
 }
 
-// A line with bytes in hexadecimal behind the fields.
-pub fn write_bytes_line(
-    heap: Global,
-    out: &mut Vec<u8>,
-    f: Fields,
-    bytes: &[u8],
-) -> Result<(), AllocError>
-    ensures { OnOk result (out.new.items ≡ out.old.items ++ line f.at f.byte f.number f.value (bytes_field bytes.now)) }
-{
-    write_fields(heap, out, f)?;
-    write_bytes_field(out, bytes)?;
-    out.push(b'\n')?;
-    Ok(())
-}
+// The line without its end.
+impl fmt::Display for Line<'_> {
+    ghost output = { λ l. Some (fields l.at l.byte l.number l.value ++ more_text l.more) };
 
-fn write_terms_field(out: &mut Vec<u8>, terms: &[Term]) -> Result<(), AllocError>
-    ensures { OnOk result (out.new.items ≡ out.old.items ++ bytes_field (poly_bytes terms.now)) }
-{
-    if terms.len() == 0 {
-        return Ok(());
+    fn fmt<W: fmt::Write>(&self, f: &mut fmt::Formatter<W>) -> fmt::Result {
+        let Line {
+            at,
+            byte,
+            number,
+            value,
+            more,
+        } = *self;
+        write!(f, "{at} {byte:02x} {number} {value}{more}")
     }
-    out.push(b' ')?;
-    write_hex_terms(out, terms)
 }
 
-// A line with the bytes of a polynomial behind the fields.
-pub fn write_terms_line(
-    heap: Global,
-    out: &mut Vec<u8>,
-    f: Fields,
-    terms: &[Term],
-) -> Result<(), AllocError>
-    ensures { OnOk result (out.new.items ≡ out.old.items ++ line f.at f.byte f.number f.value (bytes_field (poly_bytes terms.now))) }
-{
-    write_fields(heap, out, f)?;
-    write_terms_field(out, terms)?;
-    out.push(b'\n')?;
-    Ok(())
+impl Line<'_> {
+    // Adds the line at the end of a text. Writing to a Vec fails for want of memory only.
+    pub fn write_to(&self, text: &mut Vec<u8>) -> Result<(), AllocError>
+        ensures { OnOk result (text.new.items ≡ text.old.items ++ line_text self.now) }
+    {
+        writeln!(text, "{self}").map_err(|_| AllocError)
+    }
 }
 
 #[cfg(test)]

@@ -12,13 +12,14 @@ fn remainder_line(rt: HostRuntime) -> Result<(), Fail> {
             exponents: [0, 1, 0, 0, 0, 0],
         },
     }];
-    let fields = Fields {
+    let line = Line {
         at: 57,
         byte: 4,
         number: 0,
         value: 1,
+        more: More::Terms(&terms),
     };
-    write_terms_line(rt.alloc(), &mut out, fields, &terms)?;
+    line.write_to(&mut out)?;
     assert!(rt; out.as_slice() == b"57 04 0 1 010001000100000000\n".as_slice());
     Ok(())
 }
@@ -27,13 +28,14 @@ fn remainder_line(rt: HostRuntime) -> Result<(), Fail> {
 #[test]
 fn steps_line(rt: HostRuntime) -> Result<(), Fail> {
     let mut out = Vec::new(rt.alloc());
-    let fields = Fields {
+    let line = Line {
         at: 7,
         byte: 3,
         number: 16,
         value: 7,
+        more: More::Count(0),
     };
-    write_count_line(rt.alloc(), &mut out, fields, 0)?;
+    line.write_to(&mut out)?;
     assert!(rt; out.as_slice() == b"7 03 16 7 0\n".as_slice());
     Ok(())
 }

@@ -1,14 +1,13 @@
 -- What each command comes to, from the sheet's answer and the text that was written.
-use Rattle.std.proofs.Common.{◌≡◌, ℕ, ◌-◌, ◌<◌, ◌≤◌, true, ltb, List, [], ◌∷◌, ◌++◌, length, get_or, take, drop, is_err, IfOk, Ok, Err, Option, Result, sym, ◌∙◌, subst, ap₂, append-nil, Bor}
-use Rattle.std.proofs.lemmas.List.{take_rest}
-use Rattle.std.proofs.lemmas.Bool.{cond-true, lt-ltb}
-use mathlib.Core.Bool.{false≢true}
+use Rattle.std.proofs.Common.{◌≡◌, ℕ, ◌≤◌, List, [], ◌∷◌, ◌++◌, length, get_or, IfOk, Ok, Err, Option, Result, sym, refl, ap, ◌∙◌, subst, append-nil, Bor}
 use Rattle.involutive.specs.Reduction.{Refusal}
+use Rattle.calls.specs.declared.refusal.Refusal.{Refusal as Denial}
+use Rattle.calls.specs.Told.{added, judged}
 use Rattle.replay.specs.declared.command.Command.{Command}
 use Rattle.replay.specs.declared.command.Command.TheVariants.{Term as CommandTerm}
 use Rattle.replay.specs.Grammar.{byte_of, operands_of}
 use Rattle.replay.specs.Words.{word, term_of, gather, answered, shown, copied, stepped}
-use Rattle.polynomial.specs.Polynomial.{Poly, term}
+use Rattle.polynomial.specs.Polynomial.{Poly}
 use Rattle.involutive.specs.Sheet.{Setting, State}
 use Rattle.involutive.specs.Answers.{Answer, Adds, add_faulty, add_stuck, add_zero, add_full, add_row, Remains, Shows, FairCopies, Judges}
 use Rattle.involutive.specs.Log.{Call, add, remainder, show_row, fair_copy, verdict, After}
@@ -19,9 +18,14 @@ pub made_then : {X Y : Type 0} {P Q : X → Type 0} (r : Result X Y) → IfOk r 
 made_then (Ok x) p f = f x p
 made_then (Err y) p f = tt
 
-pub not_made_at_all : {X Y : Type 0} (r : Result X Y) → is_err r ≡ true → IfOk r (λ _. ⊥)
-not_made_at_all (Ok x) e = absurd (false≢true e)
-not_made_at_all (Err y) e = tt
+-- a text that is added in other words
+pub told_as : (before : List ℕ) {after t u : List ℕ} → after ≡ before ++ t → t ≡ u → after ≡ before ++ u
+told_as before e q = e ∙ ap (λ x. before ++ x) q
+
+-- the line of a verdict is made as that of an add
+pub judged_line : (at b : ℕ) (r : Result ℕ Denial) → answered at b (added r) ≡ answered at b (judged r)
+judged_line at b (Ok n) = refl
+judged_line at b (Err r) = refl
 
 module _ {S : Setting} {s : State} {g : Poly} {at : ℕ} {before after : List ℕ} where
   pub acts_term : {ops : List ℕ} {g' : Poly} → g' ≡ gather g (term_of ops) → after ≡ before → Acts S s g at 1 ops s g' before after
@@ -73,8 +77,3 @@ module _ {S : Setting} where
   after_does {gs = gs} a (Does.shows l d) = (gs, After.shown a d)
   after_does {gs = gs} a (Does.copies l d) = (gs, After.copied a d)
   after_does {gs = gs} a (Does.judges d) = (gs, After.judged a d)
-
--- one term more, of 41 at most
-pub gather_more : (g f : Poly) (ops es : List ℕ) (c : ℕ) → length g < 41 → c ≡ word (get_or ops 0 0) (get_or ops 1 0) → es ≡ take (length ops - 2) (drop 2 ops) → f ≡ g ++ (term c es ∷ []) → f ≡ gather g (term_of ops)
-gather_more g f ops es c l w e h =
-    h ∙ ap₂ (λ x y. g ++ (term x y ∷ [])) w (e ∙ take_rest ops 2) ∙ sym (cond-true (ltb (length g) 41) (g ++ (term_of ops ∷ [])) g (lt-ltb (length g) 41 l))

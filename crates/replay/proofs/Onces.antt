@@ -9,6 +9,7 @@ use Rattle.involutive.specs.Log.{Call, After}
 use Rattle.involutive.specs.Sound.{Sound}
 use Rattle.involutive.proofs.OneAnswer.{one_answer}
 use Rattle.involutive.proofs.Soundness
+use Rattle.lines.specs.Line.{line}
 use Rattle.replay.specs.Words.{operand_bytes, answered, stepped, refused_line}
 use Rattle.replay.specs.Replay.{Stepping, Does, Runs, CommandAt, Faulty, Making, granted, making, Starts, Transcript}
 use Rattle.replay.proofs.Acting.{after_does}
@@ -51,9 +52,6 @@ empty_not {bs = bs} e k = let l = long k in let z : length bs ≡ 0 = ap length 
 
 empty_faulty : {X : Type 0} {bs : List ℕ} {b n : ℕ} → bs ≡ [] → Faulty bs b n → X
 empty_faulty {bs = bs} e f = let h = faulty_some f in let z : length bs ≡ 0 = ap length e in absurd (omega (arith, h, z))
-
-joined : {a a' b b' : List ℕ} → a ≡ a' → b ≡ b' → a ++ b ≡ a' ++ b'
-joined p q = ap₂ (λ a b. a ++ b) p q
 
 -- ---- a step's answers, told apart by a number
 
@@ -153,11 +151,11 @@ module _ (S : Setting) (W : Lawful S) where
       let c = command_one k k' in
       let i = does_one h d (does_at c.0 c.1 d') in
       let j = runs_one (after_does h d).1 r (runs_at (sym i.0) (sym i.1) (ap (λ b. at + (operand_bytes b + 1)) c.0) c.2 r') in
-      joined i.2 j
+      ap₂ (λ a b. a ++ b) i.2 j
 
 starts_one : {rest x x' : List ℕ} {m : Making} → ((S : Setting) → m ≡ granted S → Lawful S) → Starts rest m x → Starts rest m x' → x ≡ x'
 starts_one L Starts.not_made Starts.not_made = refl
-starts_one L (Starts.is_made {S = S} r a) (Starts.is_made r' a') = joined refl (runs_one S (L S refl) After.made r r')
+starts_one L (Starts.is_made {S = S} r a) (Starts.is_made r' a') = ap (λ b. line 0 0 0 0 [] ++ b) (runs_one S (L S refl) After.made r r')
 
 starts_at : {rest rest₂ ops ops₂ x : List ℕ} → rest₂ ≡ rest → ops₂ ≡ ops → Starts rest₂ (making ops₂) x → Starts rest (making ops) x
 starts_at {rest = rest} {ops₂ = ops₂} {x = x} p q r = subst (λ o. Starts rest (making o) x) q (subst (λ rest. Starts rest (making ops₂) x) p r)

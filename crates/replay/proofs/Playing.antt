@@ -1,16 +1,16 @@
 -- The commands carried out so far: whatever the rest comes to, the whole comes to.
-use Rattle.std.proofs.Common.{◌≡◌, ℕ, zero, suc, ◌+◌, ◌<◌, ◌≤◌, List, [], ◌∷◌, ◌++◌, length, get_or, take, drop, Some, None, Ok, Err, Option, sym, refl, ap, ◌∙◌, subst, append_assoc, append-nil, add-one, arith, length-append, length-take-le, Bor}
+use Rattle.std.proofs.Common.{take-append-drop, ◌≡◌, ℕ, ◌+◌, ◌<◌, ◌≤◌, List, [], ◌∷◌, ◌++◌, length, get_or, take, drop, Some, None, Ok, Err, Option, sym, refl, ap, ◌∙◌, subst, append_assoc, append-nil, add-one, arith, length-append, length-take-le, Bor}
 use Rattle.replay.specs.declared.command.Command.{Command}
 use Rattle.replay.specs.declared.command.Command.TheVariants.{Sheet, Term, Add, Steps, Remainder, Row, FairCopy, Verdict}
 use Rattle.replay.specs.declared.command.Fault.{Fault}
-use Rattle.replay.specs.declared.command.Fault.TheVariants.{Short, Unknown}
-use Rattle.replay.specs.Words.{operand_bytes}
-use Rattle.replay.specs.Grammar.{byte_of, operands_of, Reads}
+use Rattle.replay.specs.declared.command.Fault.TheVariants.{Short, Unknown, Misplaced}
+use Rattle.replay.specs.Words.{operand_bytes, refused_line}
+use Rattle.replay.specs.Grammar.{byte_of, operands_of, fault_byte, fault_number, Reads, ReadsCall}
 use Rattle.polynomial.specs.Polynomial.{Poly}
 use Rattle.involutive.specs.Sheet.{Setting, Lawful, State}
 use Rattle.involutive.specs.Log.{Call, After}
 use Rattle.involutive.specs.Sound.{Sound}
-use Rattle.replay.specs.Replay.{Acts, Appends, Runs, ends, goes_on, CommandAt, Faulty, unknown, short}
+use Rattle.replay.specs.Replay.{Acts, Appends, Runs, ends, stops, made_again, goes_on, CommandAt, Faulty, unknown, short}
 use Rattle.involutive.proofs.Soundness.{sound}
 use Rattle.replay.proofs.Acting.{after_does}
 
@@ -25,8 +25,8 @@ pub record Reached (S : Setting) (s₀ : State) (log₀ : List Call) (at₀ : �
 abbrev pub Ended : Setting → State → List Call → ℕ → List ℕ → List ℕ → List ℕ → State → Type 0
 Ended S s₀ log₀ at₀ bs₀ before after s = Appends before after (λ text. (log' : List Call) × (gs' : List Poly) × Runs S s₀ log₀ [] at₀ bs₀ s log' text × After S log' s gs')
 
-pub reached_first : (S : Setting) (s : State) (log : List Call) (gs : List Poly) (at : ℕ) {bs rest out : List ℕ} {g : Poly} → rest ≡ bs → g ≡ [] → After S log s gs → Reached S s log at bs out out s g at rest
-reached_first S s log gs at {bs} {rest} {out} {g} e n a = record { text = []; bytes = sym (append-nil out); log = log; accepted = gs; stands = a; onward = λ s' log' more r. subst (λ h. Runs S s log h at bs s' log' more) n (subst (λ x. Runs S s log g at x s' log' more) e r) }
+pub reached_first : (S : Setting) (s : State) (log : List Call) (gs : List Poly) {at at' : ℕ} {bs out : List ℕ} {g : Poly} → at' ≡ at → g ≡ [] → After S log s gs → Reached S s log at bs out out s g at' bs
+reached_first S s log gs {at} {at'} {bs} {out} {g} e n a = record { text = []; bytes = sym (append-nil out); log = log; accepted = gs; stands = a; onward = λ s' log' more r. subst (λ h. Runs S s log h at bs s' log' more) n (subst (λ x. Runs S s log g x bs s' log' more) e r) }
 
 module _ {S : Setting} {s₀ : State} {log₀ : List Call} {at₀ : ℕ} {bs₀ before after : List ℕ} {s : State} {g : Poly} {at : ℕ} {bs : List ℕ} where
   pub reached_line : {new : List ℕ} (t : List ℕ) → new ≡ after ++ t → ((log : List Call) → Runs S s log g at bs s log t) → Reached S s₀ log₀ at₀ bs₀ before after s g at bs → Ended S s₀ log₀ at₀ bs₀ before new s
@@ -62,51 +62,53 @@ byte_small (Row a) = omega arith
 byte_small FairCopy = omega arith
 byte_small Verdict = omega arith
 
-take_and_drop : (n : ℕ) (xs : List ℕ) → xs ≡ take n xs ++ drop n xs
-take_and_drop zero xs = refl
-take_and_drop (suc n) [] = refl
-take_and_drop (suc n) (x ∷ xs) = ap (λ ys. x ∷ ys) (take_and_drop n xs)
-
-pub stands_at : (bs : List ℕ) (c : Command) {rest : List ℕ} → (get_or bs 0 0 ≡ byte_of c) × (operand_bytes (byte_of c) < length bs) × (operands_of c ≡ take (operand_bytes (byte_of c)) (drop 1 bs)) × (rest ≡ drop (operand_bytes (byte_of c) + 1) bs) → CommandAt bs (byte_of c) (operands_of c) rest
-stands_at [] c h = absurd (omega (arith, h.1))
-stands_at (b ∷ bs) c {rest} h =
-    let w = operand_bytes (byte_of c) in
-    let r : rest ≡ drop w bs = h.3 ∙ ap (λ n. drop n (b ∷ bs)) (add-one w) in
+stands : (bs : List ℕ) {b : ℕ} {ops rest : List ℕ} → b ≤ 7 → get_or bs 0 0 ≡ b → operand_bytes b < length bs → ops ≡ take (operand_bytes b) (drop 1 bs) → rest ≡ drop (operand_bytes b + 1) bs → CommandAt bs b ops rest
+stands [] k e l o r = absurd (omega (arith, l))
+stands (x ∷ bs) {b} {ops} {rest} k e l o r =
+    let w = operand_bytes b in
+    let t : rest ≡ drop w bs = r ∙ ap (λ n. drop n (x ∷ bs)) (add-one w) in
     record {
-      known = byte_small c;
-      bytes = ap (λ x. x ∷ bs) h.0 ∙ ap (λ ys. byte_of c ∷ ys) (take_and_drop w bs ∙ ap (λ x. x ++ drop w bs) (sym h.2) ∙ ap (λ x. operands_of c ++ x) (sym r));
-      operands = ap length h.2 ∙ length-take-le w bs (omega (arith, h.1));
+      known = k;
+      bytes = ap (λ y. y ∷ bs) e ∙ ap (λ ys. b ∷ ys) (sym (take-append-drop w bs) ∙ ap (λ y. y ++ drop w bs) (sym o) ∙ ap (λ y. ops ++ y) (sym t));
+      operands = ap length o ∙ length-take-le w bs (omega (arith, l));
     }
 
-pub faulty_unknown : (bs : List ℕ) {b : ℕ} → (0 < length bs) × (get_or bs 0 0 ≡ b) × (7 < b) → Faulty bs b 15
-faulty_unknown [] h = absurd (omega (arith, h.0))
-faulty_unknown (x ∷ bs) {b} h = subst (λ y. Faulty (y ∷ bs) b 15) (sym h.1) (unknown h.2)
-
-pub faulty_short : (bs : List ℕ) {b : ℕ} → (0 < length bs) × (get_or bs 0 0 ≡ b) × (b ≤ 7) × (length bs ≤ operand_bytes b) → Faulty bs b 16
-faulty_short [] h = absurd (omega (arith, h.0))
-faulty_short (x ∷ bs) {b} h = subst (λ y. Faulty (y ∷ bs) b 16) (sym h.1) (short h.2 (omega (arith, h.3)))
-
-pub read_unknown : (bs : List ℕ) {f : Fault} {b : ℕ} → f ≡ Unknown b → Reads bs (Err f) → Faulty bs b 15
-read_unknown bs e h = faulty_unknown bs (subst (λ f. Reads bs (Err f)) e h)
-
-pub read_short : (bs : List ℕ) {f : Fault} {b : ℕ} → f ≡ Short b → Reads bs (Err f) → Faulty bs b 16
-read_short bs e h = faulty_short bs (subst (λ f. Reads bs (Err f)) e h)
+pub read_some : (bs : List ℕ) {p : Option (Command × Bor (List ℕ))} {c : Command} {rest : Bor (List ℕ)} → p ≡ Some (c, rest) → Reads bs (Ok p) → CommandAt bs (byte_of c) (operands_of c) rest.now
+read_some bs {c = c} e h = let r = subst (λ p. Reads bs (Ok p)) e h in stands bs (byte_small c) r.0 r.1 r.2 r.3
 
 pub read_none : (bs : List ℕ) {p : Option (Command × Bor (List ℕ))} → p ≡ None → Reads bs (Ok p) → bs ≡ []
 read_none [] e h = refl
 read_none (b ∷ bs) e h = let k : length (b ∷ bs) ≡ 0 = subst (λ p. Reads (b ∷ bs) (Ok p)) e h in absurd (omega (arith, k))
 
-pub read_some : (bs : List ℕ) {p : Option (Command × Bor (List ℕ))} {c : Command} {rest : Bor (List ℕ)} → p ≡ Some (c, rest) → Reads bs (Ok p) → CommandAt bs (byte_of c) (operands_of c) rest.now
-read_some bs {c = c} e h = stands_at bs c (subst (λ p. Reads bs (Ok p)) e h)
+faulty_unknown : (bs : List ℕ) {b : ℕ} → (0 < length bs) × (get_or bs 0 0 ≡ b) × (7 < b) → Faulty bs b 15
+faulty_unknown [] h = absurd (omega (arith, h.0))
+faulty_unknown (x ∷ bs) {b} h = subst (λ y. Faulty (y ∷ bs) b 15) (sym h.1) (unknown h.2)
 
-pub sheet_at : {bs rest : List ℕ} {c : Command} {o : Bor (List ℕ)} → c ≡ Sheet o → CommandAt bs (byte_of c) (operands_of c) rest → CommandAt bs 0 o.now rest
-sheet_at {bs = bs} {rest = rest} e k = subst (λ c. CommandAt bs (byte_of c) (operands_of c) rest) e k
+faulty_short : (bs : List ℕ) {b : ℕ} → (0 < length bs) × (get_or bs 0 0 ≡ b) × (b ≤ 7) × (length bs ≤ operand_bytes b) → Faulty bs b 16
+faulty_short [] h = absurd (omega (arith, h.0))
+faulty_short (x ∷ bs) {b} h = subst (λ y. Faulty (y ∷ bs) b 16) (sym h.1) (short h.2 (omega (arith, h.3)))
+
+pub read_fault : (bs : List ℕ) (f : Fault) → Reads bs (Err f) → Faulty bs (fault_byte f) (fault_number f)
+read_fault bs (Unknown b) h = faulty_unknown bs h
+read_fault bs (Short b) h = faulty_short bs h
+read_fault bs (Misplaced b) h = absurd h
+
+-- the same behind the sheet command
+
+pub call_some : (bs : List ℕ) {p : Option (Command × Bor (List ℕ))} {c : Command} {rest : Bor (List ℕ)} → p ≡ Some (c, rest) → ReadsCall bs (Ok p) → (0 < byte_of c) × CommandAt bs (byte_of c) (operands_of c) rest.now
+call_some bs {rest = rest} e h = let r = subst (λ p. ReadsCall bs (Ok p)) e h in (r.0, read_some bs {rest = rest} refl r.1)
+
+pub call_none : {S : Setting} {s : State} {g : Poly} {at : ℕ} (bs : List ℕ) {p : Option (Command × Bor (List ℕ))} → p ≡ None → ReadsCall bs (Ok p) → (log : List Call) → Runs S s log g at bs s log []
+call_none [] e h log = ends
+call_none (b ∷ bs) e h log = let k : length (b ∷ bs) ≡ 0 = subst (λ p. ReadsCall (b ∷ bs) (Ok p)) e h in absurd (omega (arith, k))
+
+pub call_fault : {S : Setting} {s : State} {g : Poly} {at : ℕ} (bs : List ℕ) (f : Fault) → ReadsCall bs (Err f) → (log : List Call) → Runs S s log g at bs s log (refused_line at (fault_byte f) (fault_number f))
+call_fault bs (Unknown b) h log = stops (read_fault bs (Unknown b) h)
+call_fault bs (Short b) h log = stops (read_fault bs (Short b) h)
+call_fault {S = S} {s = s} {g = g} {at = at} bs (Misplaced b) h log = subst (λ b. Runs S s log g at bs s log (refused_line at b 17)) (sym h.2) (made_again (stands bs (omega arith) h.0 h.1 refl refl))
 
 pub long : {bs ops rest : List ℕ} {b : ℕ} → CommandAt bs b ops rest → length bs ≡ 1 + (operand_bytes b + length rest)
 long {ops = ops} {rest = rest} k = let e = length-append ops rest in let l = ap length k.bytes in let w = k.operands in omega (arith, e, l, w)
-
-pub runs_none : {S : Setting} {s : State} {g : Poly} {at : ℕ} {bs : List ℕ} → bs ≡ [] → (log : List Call) → Runs S s log g at bs s log []
-runs_none {S = S} {s = s} {g = g} {at = at} e log = subst (λ bs. Runs S s log g at bs s log []) (sym e) ends
 
 pub acts_under : {S S' : Setting} {s s' : State} {g g' : Poly} {at b : ℕ} {ops before after : List ℕ} → S' ≡ S → (Sound S' s → Acts S' s g at b ops s' g' before after) → Sound S s → Acts S s g at b ops s' g' before after
 acts_under {s = s} {s' = s'} {g = g} {g' = g'} {at = at} {b = b} {ops = ops} {before = before} {after = after} e f = subst (λ S. Sound S s → Acts S s g at b ops s' g' before after) e f

@@ -1,5 +1,5 @@
 -- The buffers that a replay lends have room for every answer, so a line does not depend on what they held.
-use Rattle.std.proofs.Common.{◌≡◌, ℕ, zero, suc, ◌+◌, ◌*◌, ◌≤◌, List, [], ◌∷◌, length, take, drop, sym, refl, ap, ◌∙◌, subst, ap₂, ⊎_elim, arith, length-append, length-drop}
+use Rattle.std.proofs.Common.{◌≡◌, ℕ, zero, suc, ◌+◌, ◌*◌, ◌≤◌, List, [], ◌∷◌, length, take, drop, sym, refl, ap, ◌∙◌, subst, ap₂, ⊎_elim, arith, length-append, length-take, length-drop}
 use mathlib.Core.List.Memᴰ
 use mathlib.Core.List.{Memᴰ}
 use lib.Seq.{take-append_seam}
@@ -83,10 +83,6 @@ module _ (S : Setting) (W : Lawful S) {s : State} (I : Sound S s) where
       let f = I.few in
       omega (arith, h, f)
 
-  first_short : (f : Poly) → length (take 1 f) ≤ 1
-  first_short [] = omega arith
-  first_short (t ∷ f) = omega arith
-
   fits_rest : (f : Poly) → Fits f → Fits (drop 1 f)
   fits_rest [] h = h
   fits_rest (t ∷ f) h = λ u m. h u (Memᴰ.tail m)
@@ -98,7 +94,7 @@ module _ (S : Setting) (W : Lawful S) {s : State} (I : Sound S s) where
       let n = r.short in
       let g = (Soundness.reduces_small S W c.reduced (fits_rest (row s.rows k) r.fits) (omega (arith, l, n)) c.rest refl).1 in
       let e = ap length c.is ∙ length-append (take 1 (row s.rows k)) c.rest in
-      let o = first_short (row s.rows k) in
+      let o = length-take 1 (row s.rows k) in
       let b = poly_long f (λ t m. ((Sheets.fair S W s I k w c).good.over t m).1.wide) in
       omega (arith, g, e, o, b)
 

@@ -1,10 +1,12 @@
--- Command bytes: a byte, operands of fixed operand-bytes, and the rest.
+-- Command bytes: a byte, operands of fixed width, and the rest.
 use Rattle.std.specs.Prelude.{◌≡◌, ℕ, ◌+◌, ◌<◌, ◌≤◌, List, [], length, take, drop, Some, None, Ok, Err, Option, Result, slice_index}
 use Rattle.std.specs.Borrow.{Bor}
 use Rattle.replay.specs.declared.command.Command.{Command}
 use Rattle.replay.specs.declared.command.Command.TheVariants.{Sheet, Term, Add, Steps, Remainder, Row, FairCopy, Verdict}
 use Rattle.replay.specs.declared.command.Fault.{Fault}
-use Rattle.replay.specs.declared.command.Fault.TheVariants.{Short, Unknown}
+use Rattle.replay.specs.declared.command.Fault.TheVariants.{Short, Unknown, Misplaced}
+use Rattle.replay.specs.declared.choose.NoSheet.{NoSheet}
+use Rattle.replay.specs.declared.choose.NoSheet.TheVariants.{Field, Variables, Order, Division}
 use Rattle.replay.specs.Words.{operand_bytes}
 
 abbrev pub byte_of : Command → ℕ
@@ -32,3 +34,30 @@ Reads bs (Ok None) = length bs ≡ 0
 Reads bs (Ok (Some p)) = (slice_index bs 0 ≡ byte_of p.0) × (operand_bytes (byte_of p.0) < length bs) × (operands_of p.0 ≡ take (operand_bytes (byte_of p.0)) (drop 1 bs)) × (p.1.now ≡ drop (operand_bytes (byte_of p.0) + 1) bs)
 Reads bs (Err (Short b)) = (0 < length bs) × (slice_index bs 0 ≡ b) × (b ≤ 7) × (length bs ≤ operand_bytes b)
 Reads bs (Err (Unknown b)) = (0 < length bs) × (slice_index bs 0 ≡ b) × (7 < b)
+Reads bs (Err (Misplaced b)) = ⊥
+
+-- the same where no sheet command may stand
+abbrev pub ReadsCall : List ℕ → Result (Option (Command × Bor (List ℕ))) Fault → Type 0
+ReadsCall bs (Ok None) = length bs ≡ 0
+ReadsCall bs (Ok (Some p)) = (0 < byte_of p.0) × Reads bs (Ok (Some p))
+ReadsCall bs (Err (Short b)) = Reads bs (Err (Short b))
+ReadsCall bs (Err (Unknown b)) = Reads bs (Err (Unknown b))
+ReadsCall bs (Err (Misplaced b)) = (slice_index bs 0 ≡ 0) × (6 < length bs) × (b ≡ 0)
+
+-- the byte and the number of a command that is not carried out
+abbrev pub fault_byte : Fault → ℕ
+fault_byte (Unknown b) = b
+fault_byte (Short b) = b
+fault_byte (Misplaced b) = b
+
+abbrev pub fault_number : Fault → ℕ
+fault_number (Unknown b) = 15
+fault_number (Short b) = 16
+fault_number (Misplaced b) = 17
+
+-- the number of a making that is refused
+abbrev pub no_sheet_number : NoSheet → ℕ
+no_sheet_number Field = 1
+no_sheet_number Variables = 2
+no_sheet_number Order = 3
+no_sheet_number Division = 4

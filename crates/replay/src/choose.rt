@@ -1,19 +1,19 @@
 // The making: the field, the order and the division that the sheet command names, and the commands after it on a sheet
 // over them.
-ghost use Rattle.std.specs.Prelude.{◌≡◌, ℕ, ◌≤◌, List, length, drop, Some as the, OnOk};
+ghost use Rattle.std.specs.Prelude.{◌≡◌, ℕ, List, Some as the, IfOk};
 ghost use Rattle.field.specs.Kinds.{field_of};
 ghost use Rattle.monomial.specs.Monomial.{width};
 ghost use Rattle.monomial.specs.Order.{order_of};
 ghost use Rattle.monomial.specs.Division.{Within, division_of};
-ghost use Rattle.involutive.specs.Sheet.{empty};
-ghost use Rattle.replay.specs.Replay.{Appends, Starts, granted, refused, with_division, with_order, with_field};
+ghost use Rattle.replay.specs.Grammar.{no_sheet_number};
+ghost use Rattle.replay.specs.Replay.{Starts, refused, making, with_division, with_order, with_field};
 
-use crate::play::play;
-use crate::tell::write_making;
-use calls::calls::Calls;
+use crate::play::run;
+use crate::tell::{not_made, text_of};
 use field::Field;
 use field::four::Four;
 use field::prime::Prime;
+use monomial::WIDTH;
 use monomial::degree_lexicographic::DegreeLexicographic;
 use monomial::degree_reverse::DegreeReverse;
 use monomial::division::Division;
@@ -21,53 +21,64 @@ use monomial::janet::Janet;
 use monomial::lexicographic::Lexicographic;
 use monomial::order::Order;
 use monomial::thomas::Thomas;
-use monomial::{Monomial, WIDTH};
-use polynomial::check::MOST_TERMS;
-use polynomial::term::Term;
 use sheet::sheet::Sheet;
 use sheet::unmade::Unmade;
 use std::alloc::{AllocError, Global};
 
-// The most bytes of a fair copy: 32 rows of 40 terms of 9 bytes, and a closing byte each.
-const MOST_BYTES: usize = 11552;
-
 // The operands of the sheet command.
 #[derive(Clone, Copy)]
 pub(crate) struct Operands {
-    pub(crate) kind: u8,
-    pub(crate) modulus: u16,
-    pub(crate) variables: u8,
-    pub(crate) order: u8,
-    pub(crate) division: u8,
+    kind: u8,
+    modulus: u16,
+    variables: u8,
+    order: u8,
+    division: u8,
+}
+
+impl Operands {
+    // What the operand bytes say, the high byte of the modulus first.
+    pub(crate) fn read(bytes: &[u8; 6]) -> Operands
+        ensures { with_field (field_of result.kind result.modulus) result.variables result.order result.division ≡ making bytes.now }
+    {
+        let [kind, high, low, variables, order, division] = *bytes;
+        Operands {
+            kind,
+            modulus: u16::from_be_bytes([high, low]),
+            variables,
+            order,
+            division,
+        }
+    }
+}
+
+// What the operands of a sheet command name that there is not.
+#[derive(Clone, Copy)]
+pub(crate) enum NoSheet {
+    Field,
+    Variables,
+    Order,
+    Division,
+}
+
+impl NoSheet {
+    // The number by which the formats name the refusal.
+    pub(crate) fn number(&self) -> u8
+        ensures { result ≡ no_sheet_number self.now }
+    {
+        match self {
+            NoSheet::Field => 1,
+            NoSheet::Variables => 2,
+            NoSheet::Order => 3,
+            NoSheet::Division => 4,
+        }
+    }
 }
 
 // The making is refused, and nothing else is read.
-fn refuse(heap: Global, number: u8, out: &mut Vec<u8>) -> Result<(), AllocError>
-    ensures { OnOk result ((rest : List ℕ) → Appends out.old.items out.new.items (Starts rest (refused number))) }
+fn refuse(heap: Global, reason: NoSheet) -> Result<Vec<u8>, AllocError>
+    ensures { IfOk result (λ text. (rest : List ℕ) → Starts rest (refused (no_sheet_number reason)) text.items) }
 {
-    write_making(heap, out, number)
-}
-
-// The line of the making, and what the commands after it write, on a new sheet.
-fn run<C: Calls>(
-    heap: Global,
-    sheet: &mut C,
-    input: &[u8],
-    out: &mut Vec<u8>,
-) -> Result<(), AllocError>
-    requires { 7 ≤ length input.now }
-    ensures { OnOk result (C.Calls.state sheet.old ≡ empty → Appends out.old.items out.new.items (Starts (drop 7 input.now) (granted (C.Calls.setting sheet.old)))) }
-{
-    let zero = Term {
-        coefficient: 0,
-        monomial: Monomial {
-            exponents: [0; WIDTH],
-        },
-    };
-    let mut terms = vec![in heap; zero; MOST_TERMS]?;
-    let mut bytes = vec![in heap; 0u8; MOST_BYTES]?;
-    write_making(heap, out, 0)?;
-    play(heap, sheet, &mut terms, &mut bytes, input, out)
+    text_of(heap, not_made(reason))
 }
 
 // A sheet over this field, order and division, and the commands on it.
@@ -77,19 +88,16 @@ fn start<F: Field + Drop, O: Order + Drop, D: Division + Drop>(
     order: O,
     division: D,
     variables: usize,
-    input: &[u8],
-    out: &mut Vec<u8>,
-) -> Result<(), AllocError>
-    requires { (7 ≤ length input.now) × (Within variables width) }
-    ensures { OnOk result (Appends out.old.items out.new.items (Starts (drop 7 input.now) (with_division (F.Field.meaning field) variables (O.Order.meaning order) (the (D.Division.meaning division))))) }
+    rest: &[u8],
+) -> Result<Vec<u8>, AllocError>
+    requires { Within variables width }
+    ensures { IfOk result (λ text. Starts rest.now (with_division (F.Field.meaning field) variables (O.Order.meaning order) (the (D.Division.meaning division))) text.items) }
 {
     match Sheet::new(heap, field, order, division, variables) {
-        Ok(mut sheet) => run(heap, &mut sheet, input, out),
-        Err(unmade) => match unmade {
-            // The number of variables was checked before.
-            Unmade::Variables => refuse(heap, 2, out),
-            Unmade::Memory => Err(AllocError),
-        },
+        Ok(mut sheet) => run(heap, &mut sheet, rest),
+        // The number of variables was checked before.
+        Err(Unmade::Variables) => refuse(heap, NoSheet::Variables),
+        Err(Unmade::Memory) => Err(AllocError),
     }
 }
 
@@ -99,20 +107,19 @@ fn start_by_division<F: Field + Drop, O: Order + Drop>(
     field: F,
     order: O,
     operands: Operands,
-    input: &[u8],
-    out: &mut Vec<u8>,
-) -> Result<(), AllocError>
-    requires { (7 ≤ length input.now) × (Within operands.variables width) }
-    ensures { OnOk result (Appends out.old.items out.new.items (Starts (drop 7 input.now) (with_division (F.Field.meaning field) operands.variables (O.Order.meaning order) (division_of operands.division)))) }
+    rest: &[u8],
+) -> Result<Vec<u8>, AllocError>
+    requires { Within operands.variables width }
+    ensures { IfOk result (λ text. Starts rest.now (with_division (F.Field.meaning field) operands.variables (O.Order.meaning order) (division_of operands.division)) text.items) }
 {
     let variables = operands.variables as usize;
     if operands.division == <Janet as Division>::CODE {
-        return start(heap, field, order, Janet, variables, input, out);
+        return start(heap, field, order, Janet, variables, rest);
     }
     if operands.division == <Thomas as Division>::CODE {
-        return start(heap, field, order, Thomas, variables, input, out);
+        return start(heap, field, order, Thomas, variables, rest);
     }
-    refuse(heap, 4, out)
+    refuse(heap, NoSheet::Division)
 }
 
 // The order is chosen by its code.
@@ -120,17 +127,16 @@ fn start_by_order<F: Field + Drop>(
     heap: Global,
     field: F,
     operands: Operands,
-    input: &[u8],
-    out: &mut Vec<u8>,
-) -> Result<(), AllocError>
-    requires { (7 ≤ length input.now) × (Within operands.variables width) }
-    ensures { OnOk result (Appends out.old.items out.new.items (Starts (drop 7 input.now) (with_order (F.Field.meaning field) operands.variables (order_of operands.order) operands.division))) }
+    rest: &[u8],
+) -> Result<Vec<u8>, AllocError>
+    requires { Within operands.variables width }
+    ensures { IfOk result (λ text. Starts rest.now (with_order (F.Field.meaning field) operands.variables (order_of operands.order) operands.division) text.items) }
 {
     match operands.order {
-        1 => start_by_division(heap, field, Lexicographic, operands, input, out),
-        2 => start_by_division(heap, field, DegreeLexicographic, operands, input, out),
-        3 => start_by_division(heap, field, DegreeReverse, operands, input, out),
-        _ => refuse(heap, 3, out),
+        1 => start_by_division(heap, field, Lexicographic, operands, rest),
+        2 => start_by_division(heap, field, DegreeLexicographic, operands, rest),
+        3 => start_by_division(heap, field, DegreeReverse, operands, rest),
+        _ => refuse(heap, NoSheet::Order),
     }
 }
 
@@ -139,37 +145,33 @@ fn start_by_variables<F: Field + Drop>(
     heap: Global,
     field: F,
     operands: Operands,
-    input: &[u8],
-    out: &mut Vec<u8>,
-) -> Result<(), AllocError>
-    requires { 7 ≤ length input.now }
-    ensures { OnOk result (Appends out.old.items out.new.items (Starts (drop 7 input.now) (with_field (the (F.Field.meaning field)) operands.variables operands.order operands.division))) }
+    rest: &[u8],
+) -> Result<Vec<u8>, AllocError>
+    ensures { IfOk result (λ text. Starts rest.now (with_field (the (F.Field.meaning field)) operands.variables operands.order operands.division) text.items) }
 {
     let variables = operands.variables as usize;
     if variables == 0 || variables > WIDTH {
-        return refuse(heap, 2, out);
+        return refuse(heap, NoSheet::Variables);
     }
-    start_by_order(heap, field, operands, input, out)
+    start_by_order(heap, field, operands, rest)
 }
 
 // What the sheet command and those after it write; the field is chosen by its kind and modulus.
 pub(crate) fn start_by_field(
     heap: Global,
     operands: Operands,
-    input: &[u8],
-    out: &mut Vec<u8>,
-) -> Result<(), AllocError>
-    requires { 7 ≤ length input.now }
-    ensures { OnOk result (Appends out.old.items out.new.items (Starts (drop 7 input.now) (with_field (field_of operands.kind operands.modulus) operands.variables operands.order operands.division))) }
+    rest: &[u8],
+) -> Result<Vec<u8>, AllocError>
+    ensures { IfOk result (λ text. Starts rest.now (with_field (field_of operands.kind operands.modulus) operands.variables operands.order operands.division) text.items) }
 {
     if operands.kind == 1 {
         return match Prime::new(operands.modulus) {
-            Some(prime) => start_by_variables(heap, prime, operands, input, out),
-            None => refuse(heap, 1, out),
+            Some(prime) => start_by_variables(heap, prime, operands, rest),
+            None => refuse(heap, NoSheet::Field),
         };
     }
     if operands.kind == 2 && operands.modulus == 4 {
-        return start_by_variables(heap, Four, operands, input, out);
+        return start_by_variables(heap, Four, operands, rest);
     }
-    refuse(heap, 1, out)
+    refuse(heap, NoSheet::Field)
 }

@@ -1,41 +1,95 @@
 // Commands: a byte and operands of fixed width, which are parts of the command file.
-ghost use Rattle.std.specs.Prelude.{◌≡◌};
-ghost use Rattle.replay.specs.Grammar.{Reads};
+ghost use Rattle.std.specs.Prelude.{◌≡◌, ◌<◌, length, take, drop};
+ghost use Rattle.replay.specs.Grammar.{Reads, byte_of, fault_byte, fault_number};
 
 // A command and its operands, which are parts of the input.
 #[derive(Clone, Copy)]
 pub enum Command<'a> {
-    Sheet(&'a [u8]),
-    Term(&'a [u8]),
+    Sheet(&'a [u8; 6]),
+    Term(&'a [u8; 8]),
     Add,
-    Steps(&'a [u8]),
+    Steps(&'a [u8; 2]),
     Remainder,
-    Row(&'a [u8]),
+    Row(&'a [u8; 1]),
     FairCopy,
     Verdict,
 }
 
-// Why no command stands at the front.
+impl Command<'_> {
+    // The byte of the command.
+    pub(crate) fn byte(&self) -> u8
+        ensures { result ≡ byte_of self.now }
+    {
+        match self {
+            Command::Sheet(_) => 0,
+            Command::Term(_) => 1,
+            Command::Add => 2,
+            Command::Steps(_) => 3,
+            Command::Remainder => 4,
+            Command::Row(_) => 5,
+            Command::FairCopy => 6,
+            Command::Verdict => 7,
+        }
+    }
+}
+
+// Why a command is not carried out.
 #[derive(Clone, Copy)]
 pub enum Fault {
     // The byte is no command's.
     Unknown(u8),
     // Operands are missing.
     Short(u8),
+    // It is the first command and makes no sheet, or a later one and makes a sheet.
+    Misplaced(u8),
 }
 
-// The command at the front of the input, and the rest; nothing at the end of the input.
+impl Fault {
+    // The byte of the command.
+    pub(crate) fn byte(&self) -> u8
+        ensures { result ≡ fault_byte self.now }
+    {
+        match *self {
+            Fault::Unknown(byte) | Fault::Short(byte) | Fault::Misplaced(byte) => byte,
+        }
+    }
+
+    // The number by which the formats name the refusal.
+    pub(crate) fn number(&self) -> u8
+        ensures { result ≡ fault_number self.now }
+    {
+        match self {
+            Fault::Unknown(_) => 15,
+            Fault::Short(_) => 16,
+            Fault::Misplaced(_) => 17,
+        }
+    }
+}
+
+// The operands behind the byte of a command that has them all.
+fn operands<const N: usize>(input: &[u8]) -> &[u8; N]
+    requires { N < length input.now }
+    ensures { result.now ≡ take N (drop 1 input.now) }
+{
+    input[1..].first_chunk().unwrap()
+}
+
+// The command at the front of the input, and the rest; nothing at the end of the input. No command is misplaced here.
+// The patterns take byte, operands and rest apart, a form that the project keeps (docs/DECISIONS.md, Code forms).
 pub fn next<'a>(input: &'a [u8]) -> Result<Option<(Command<'a>, &'a [u8])>, Fault>
     ensures { Reads input.now result }
 {
     match input {
         [] => Ok(None),
-        [0x00, _, _, _, _, _, _, rest @ ..] => Ok(Some((Command::Sheet(&input[1..7]), rest))),
-        [0x01, _, _, _, _, _, _, _, _, rest @ ..] => Ok(Some((Command::Term(&input[1..9]), rest))),
+        [0x00, _, _, _, _, _, _, rest @ ..] => Ok(Some((Command::Sheet(operands(input)), rest))),
+        [0x01, _, _, _, _, _, _, _, _, rest @ ..] => Ok(Some((
+            Command::Term(operands(input)),
+            rest,
+        ))),
         [0x02, rest @ ..] => Ok(Some((Command::Add, rest))),
-        [0x03, _, _, rest @ ..] => Ok(Some((Command::Steps(&input[1..3]), rest))),
+        [0x03, _, _, rest @ ..] => Ok(Some((Command::Steps(operands(input)), rest))),
         [0x04, rest @ ..] => Ok(Some((Command::Remainder, rest))),
-        [0x05, _, rest @ ..] => Ok(Some((Command::Row(&input[1..2]), rest))),
+        [0x05, _, rest @ ..] => Ok(Some((Command::Row(operands(input)), rest))),
         [0x06, rest @ ..] => Ok(Some((Command::FairCopy, rest))),
         [0x07, rest @ ..] => Ok(Some((Command::Verdict, rest))),
         [0x00 | 0x01 | 0x03 | 0x05, ..] => Err(Fault::Short(input[0])),

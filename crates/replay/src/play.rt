@@ -1,74 +1,71 @@
-// The commands after the making, carried out one after the other.
-ghost use Rattle.std.specs.Prelude.{◌≡◌, ℕ, ◌<◌, ◌≤◌, List, [], length, drop, OnOk};
+// The commands behind the sheet command, carried out one after the other.
+ghost use Rattle.std.specs.Prelude.{◌≡◌, ◌<◌, List, [], IfOk, OnOk};
 ghost use Rattle.std.specs.Option.{option_map};
 ghost use Rattle.polynomial.specs.Polynomial.{Poly};
 ghost use Rattle.involutive.specs.Log.{Call};
+ghost use Rattle.involutive.specs.Sheet.{empty};
 ghost use Rattle.involutive.specs.Sound.{Sound};
 ghost use Rattle.calls.specs.Told.{told};
-ghost use Rattle.replay.specs.Words.{gather, term_of, operand_bytes};
-ghost use Rattle.replay.specs.Grammar.{byte_of, operands_of};
-ghost use Rattle.replay.specs.Replay.{Stepping, Acts, Ran};
+ghost use Rattle.replay.specs.Words.{gather, term_of};
+ghost use Rattle.replay.specs.Grammar.{byte_of, operands_of, ReadsCall};
+ghost use Rattle.replay.specs.Replay.{Stepping, Acts, Ran, Starts, granted};
 
 use crate::command::{Command, Fault, next};
-use crate::tell::{
-    Stepped, write_added, write_copied, write_judged, write_refused, write_shown, write_steps,
-};
+use crate::tell::{Steps, answered, copied, made, refused, shown, stepped};
 use calls::answer::Step;
 use calls::calls::Calls;
 use monomial::{Monomial, WIDTH};
+use polynomial::check::MOST_TERMS;
 use polynomial::term::Term;
 use std::alloc::{AllocError, Global};
 
 // One term more than a polynomial may have: enough for it to be refused.
 const MOST_GATHERED: usize = 41;
 
-fn do_term(gathered: &mut Vec<Term>, ops: &[u8]) -> Result<(), AllocError>
-    requires { length ops.now ≡ 8 }
-    ensures { OnOk result (gathered.new.items ≡ gather gathered.old.items (term_of ops.now)) }
+// The most bytes of a fair copy: 32 rows of 40 terms of 9 bytes, and a closing byte each.
+const MOST_BYTES: usize = 11552;
+
+// How many bytes the sheet command takes.
+const SHEET_BYTES: usize = 7;
+
+// The term that the operands of a term command name.
+fn term_of(operands: &[u8; 8]) -> Term
+    ensures { result ≡ term_of operands.now }
 {
-    if gathered.len() >= MOST_GATHERED {
-        return Ok(());
+    let [high, low, a, b, c, d, e, f] = *operands;
+    Term {
+        coefficient: u16::from_be_bytes([high, low]),
+        monomial: Monomial {
+            exponents: [a, b, c, d, e, f],
+        },
     }
-    let mut exponents = [0; WIDTH];
-    exponents.copy_from_slice(&ops[2..]);
-    let term = Term {
-        coefficient: u16::from_be_bytes([ops[0], ops[1]]),
-        monomial: Monomial { exponents },
-    };
-    gathered.push(term)?;
-    Ok(())
 }
 
-fn do_add<C: Calls>(
-    heap: Global,
-    sheet: &mut C,
-    gathered: &mut Vec<Term>,
-    at: usize,
-    out: &mut Vec<u8>,
-) -> Result<(), AllocError>
-    ensures kept { C.Calls.setting sheet.new ≡ C.Calls.setting sheet.old }
-    ensures acts { OnOk result (Sound (C.Calls.setting sheet.old) (C.Calls.state sheet.old) → Acts (C.Calls.setting sheet.old) (C.Calls.state sheet.old) gathered.old.items at 2 [] (C.Calls.state sheet.new) gathered.new.items out.old.items out.new.items) }
+// The command at the front, which may be any but a sheet command, and the rest.
+fn next_call<'a>(input: &'a [u8]) -> Result<Option<(Command<'a>, &'a [u8])>, Fault>
+    ensures { ReadsCall input.now result }
 {
-    let answer = sheet.add(gathered.as_slice());
-    gathered.clear();
-    write_added(heap, out, at, answer)
+    match next(input)? {
+        Some((Command::Sheet(_), _)) => Err(Fault::Misplaced(0)),
+        found => Ok(found),
+    }
 }
 
-fn repeat_step<C: Calls>(sheet: &mut C, count: u16) -> Stepped
+// Up to so many steps, until the sheet is closed or a step is denied.
+fn repeat_step<C: Calls>(sheet: &mut C, count: u16) -> Steps
     ensures kept { C.Calls.setting sheet.new ≡ C.Calls.setting sheet.old }
     ensures steps { Sound (C.Calls.setting sheet.old) (C.Calls.state sheet.old) → (log : List Call) → (log' : List Call) × Stepping (C.Calls.setting sheet.old) (C.Calls.state sheet.old) log count result.granted (option_map told result.denial) (C.Calls.state sheet.new) log' }
 {
-    let mut granted: usize = 0;
-    let mut left = count;
-    while left > 0 {
-        left -= 1;
+    let mut granted = 0;
+    'steps: for _ in 0..count {
         match sheet.step() {
-            Err(refusal) => return Stepped {
+            Err(refusal) => return Steps {
                 granted,
                 denial: Some(refusal),
             },
+            // A match of its own, and an arm each: of a nested or a joint pattern a proof does not know afterwards which step it was.
             Ok(step) => match step {
-                Step::Closed => return Stepped {
+                Step::Closed => return Steps {
                     granted,
                     denial: None,
                 },
@@ -77,144 +74,155 @@ fn repeat_step<C: Calls>(sheet: &mut C, count: u16) -> Stepped
             },
         }
     }
-    Stepped {
+    Steps {
         granted,
         denial: None,
     }
 }
 
-fn do_steps<C: Calls>(
-    heap: Global,
-    sheet: &mut C,
-    ops: &[u8],
-    at: usize,
-    out: &mut Vec<u8>,
-) -> Result<(), AllocError>
-    requires { length ops.now ≡ 2 }
-    ensures kept { C.Calls.setting sheet.new ≡ C.Calls.setting sheet.old }
-    ensures acts { OnOk result ((g : Poly) → Sound (C.Calls.setting sheet.old) (C.Calls.state sheet.old) → Acts (C.Calls.setting sheet.old) (C.Calls.state sheet.old) g at 3 ops.now (C.Calls.state sheet.new) g out.old.items out.new.items) }
-{
-    let steps = repeat_step(sheet, u16::from_be_bytes([ops[0], ops[1]]));
-    write_steps(heap, out, at, steps)
+// What a replay has besides its sheet: the terms gathered so far, what it lends to the calls, and the lines that it has written.
+#[derive(Drop)]
+struct Replay {
+    gathered: Vec<Term>,
+    terms: [Term; MOST_TERMS],
+    bytes: [u8; MOST_BYTES],
+    text: Vec<u8>,
 }
 
-fn do_remainder<C: Calls>(
-    heap: Global,
-    sheet: &mut C,
-    gathered: &mut Vec<Term>,
-    terms: &mut [Term],
-    at: usize,
-    out: &mut Vec<u8>,
-) -> Result<(), AllocError>
-    requires { 40 ≤ length terms.old }
-    ensures kept { C.Calls.setting sheet.new ≡ C.Calls.setting sheet.old }
-    ensures acts { OnOk result (Sound (C.Calls.setting sheet.old) (C.Calls.state sheet.old) → Acts (C.Calls.setting sheet.old) (C.Calls.state sheet.old) gathered.old.items at 4 [] (C.Calls.state sheet.new) gathered.new.items out.old.items out.new.items) }
-{
-    let answer = sheet.remainder(gathered.as_slice(), terms);
-    gathered.clear();
-    write_shown(heap, out, at, 4, answer, terms)
-}
-
-fn do_row<C: Calls>(
-    heap: Global,
-    sheet: &C,
-    terms: &mut [Term],
-    ops: &[u8],
-    at: usize,
-    out: &mut Vec<u8>,
-) -> Result<(), AllocError>
-    requires { (40 ≤ length terms.old) × (length ops.now ≡ 1) }
-    ensures acts { OnOk result ((g : Poly) → Sound (C.Calls.setting sheet.now) (C.Calls.state sheet.now) → Acts (C.Calls.setting sheet.now) (C.Calls.state sheet.now) g at 5 ops.now (C.Calls.state sheet.now) g out.old.items out.new.items) }
-{
-    let answer = sheet.row(ops[0] as usize, terms);
-    write_shown(heap, out, at, 5, answer, terms)
-}
-
-fn do_fair_copy<C: Calls>(
-    heap: Global,
-    sheet: &mut C,
-    bytes: &mut [u8],
-    at: usize,
-    out: &mut Vec<u8>,
-) -> Result<(), AllocError>
-    requires { 11552 ≤ length bytes.old }
-    ensures kept { C.Calls.setting sheet.new ≡ C.Calls.setting sheet.old }
-    ensures acts { OnOk result ((g : Poly) → Sound (C.Calls.setting sheet.old) (C.Calls.state sheet.old) → Acts (C.Calls.setting sheet.old) (C.Calls.state sheet.old) g at 6 [] (C.Calls.state sheet.new) g out.old.items out.new.items) }
-{
-    let answer = sheet.fair_copy(bytes);
-    write_copied(heap, out, at, answer, bytes)
-}
-
-fn do_verdict<C: Calls>(
-    heap: Global,
-    sheet: &C,
-    at: usize,
-    out: &mut Vec<u8>,
-) -> Result<(), AllocError>
-    ensures acts { OnOk result ((g : Poly) → Sound (C.Calls.setting sheet.now) (C.Calls.state sheet.now) → Acts (C.Calls.setting sheet.now) (C.Calls.state sheet.now) g at 7 [] (C.Calls.state sheet.now) g out.old.items out.new.items) }
-{
-    let answer = sheet.verdict();
-    write_judged(heap, out, at, answer)
-}
-
-fn act<C: Calls>(
-    heap: Global,
-    sheet: &mut C,
-    gathered: &mut Vec<Term>,
-    terms: &mut [Term],
-    bytes: &mut [u8],
-    command: Command<'_>,
-    at: usize,
-    out: &mut Vec<u8>,
-) -> Result<(), AllocError>
-    requires { (40 ≤ length terms.old) × ((11552 ≤ length bytes.old) × (length (operands_of command) ≡ operand_bytes (byte_of command))) }
-    ensures kept { C.Calls.setting sheet.new ≡ C.Calls.setting sheet.old }
-    ensures acts { OnOk result (0 < byte_of command.entry → Sound (C.Calls.setting sheet.old) (C.Calls.state sheet.old) → Acts (C.Calls.setting sheet.old) (C.Calls.state sheet.old) gathered.old.items at (byte_of command.entry) (operands_of command.entry) (C.Calls.state sheet.new) gathered.new.items out.old.items out.new.items) }
-{
-    match command {
-        Command::Sheet(_) => Ok(()),
-        Command::Term(ops) => do_term(gathered, ops),
-        Command::Add => do_add(heap, sheet, gathered, at, out),
-        Command::Steps(ops) => do_steps(heap, sheet, ops, at, out),
-        Command::Remainder => do_remainder(heap, sheet, gathered, terms, at, out),
-        Command::Row(ops) => do_row(heap, sheet, terms, ops, at, out),
-        Command::FairCopy => do_fair_copy(heap, sheet, bytes, at, out),
-        Command::Verdict => do_verdict(heap, sheet, at, out),
-    }
-}
-
-// What the commands after the first one write, and what they make of the sheet.
-pub(crate) fn play<C: Calls>(
-    heap: Global,
-    sheet: &mut C,
-    terms: &mut [Term],
-    bytes: &mut [u8],
-    input: &[u8],
-    out: &mut Vec<u8>,
-) -> Result<(), AllocError>
-    requires { (40 ≤ length terms.old) × ((11552 ≤ length bytes.old) × (7 ≤ length input.now)) }
-    ensures { OnOk result (Ran (C.Calls.setting sheet.old) (C.Calls.state sheet.old) [] 7 (drop 7 input.now) (C.Calls.state sheet.new) out.old.items out.new.items) }
-{
-    let mut gathered: Vec<Term> = Vec::new(heap);
-    let mut at: usize = 7;
-    let mut rest = &input[7..];
-    loop {
-        match next(rest) {
-            Err(fault) => match fault {
-                Fault::Unknown(byte) => return write_refused(heap, out, at, byte, 15),
-                Fault::Short(byte) => return write_refused(heap, out, at, byte, 16),
+impl Replay {
+    fn new(heap: Global) -> Replay
+        ensures gathered { result.gathered.items ≡ [] }
+        ensures text { result.text.items ≡ [] }
+    {
+        let zero = Term {
+            coefficient: 0,
+            monomial: Monomial {
+                exponents: [0; WIDTH],
             },
-            Ok(found) => match found {
-                None => return Ok(()),
-                Some((command, after)) => {
-                    if let Command::Sheet(_) = command {
-                        return write_refused(heap, out, at, 0, 17);
-                    }
-                    act(heap, sheet, &mut gathered, terms, bytes, command, at, out)?;
-                    at += rest.len() - after.len();
-                    rest = after;
-                }
-            },
+        };
+        Replay {
+            gathered: Vec::new(heap),
+            terms: [zero; MOST_TERMS],
+            bytes: [0; MOST_BYTES],
+            text: Vec::new(heap),
         }
     }
+
+    fn gather(&mut self, operands: &[u8; 8]) -> Result<(), AllocError>
+        ensures text { self.new.text.items ≡ self.old.text.items }
+        ensures gathers { OnOk result (self.new.gathered.items ≡ gather self.old.gathered.items (term_of operands.now)) }
+    {
+        if self.gathered.len() < MOST_GATHERED {
+            self.gathered.push(term_of(operands))?;
+        }
+        Ok(())
+    }
+
+    fn add<C: Calls>(&mut self, sheet: &mut C, at: usize) -> Result<(), AllocError>
+        ensures kept { C.Calls.setting sheet.new ≡ C.Calls.setting sheet.old }
+        ensures acts { OnOk result (Sound (C.Calls.setting sheet.old) (C.Calls.state sheet.old) → Acts (C.Calls.setting sheet.old) (C.Calls.state sheet.old) self.old.gathered.items at 2 [] (C.Calls.state sheet.new) self.new.gathered.items self.old.text.items self.new.text.items) }
+    {
+        let answer = sheet.add(self.gathered.as_slice());
+        self.gathered.clear();
+        answered(at, Command::Add, answer).write_to(&mut self.text)
+    }
+
+    fn steps<C: Calls>(
+        &mut self,
+        sheet: &mut C,
+        operands: &[u8; 2],
+        at: usize,
+    ) -> Result<(), AllocError>
+        ensures kept { C.Calls.setting sheet.new ≡ C.Calls.setting sheet.old }
+        ensures acts { OnOk result (Sound (C.Calls.setting sheet.old) (C.Calls.state sheet.old) → Acts (C.Calls.setting sheet.old) (C.Calls.state sheet.old) self.old.gathered.items at 3 operands.now (C.Calls.state sheet.new) self.new.gathered.items self.old.text.items self.new.text.items) }
+    {
+        let steps = repeat_step(sheet, u16::from_be_bytes(*operands));
+        stepped(at, operands, steps).write_to(&mut self.text)
+    }
+
+    fn remainder<C: Calls>(&mut self, sheet: &mut C, at: usize) -> Result<(), AllocError>
+        ensures kept { C.Calls.setting sheet.new ≡ C.Calls.setting sheet.old }
+        ensures acts { OnOk result (Sound (C.Calls.setting sheet.old) (C.Calls.state sheet.old) → Acts (C.Calls.setting sheet.old) (C.Calls.state sheet.old) self.old.gathered.items at 4 [] (C.Calls.state sheet.new) self.new.gathered.items self.old.text.items self.new.text.items) }
+    {
+        let answer = sheet.remainder(self.gathered.as_slice(), &mut self.terms);
+        self.gathered.clear();
+        shown(at, Command::Remainder, answer, &self.terms).write_to(&mut self.text)
+    }
+
+    fn row<C: Calls>(&mut self, sheet: &C, operands: &[u8; 1], at: usize) -> Result<(), AllocError>
+        ensures acts { OnOk result (Sound (C.Calls.setting sheet.now) (C.Calls.state sheet.now) → Acts (C.Calls.setting sheet.now) (C.Calls.state sheet.now) self.old.gathered.items at 5 operands.now (C.Calls.state sheet.now) self.new.gathered.items self.old.text.items self.new.text.items) }
+    {
+        let answer = sheet.row(usize::from(operands[0]), &mut self.terms);
+        shown(at, Command::Row(operands), answer, &self.terms).write_to(&mut self.text)
+    }
+
+    fn fair_copy<C: Calls>(&mut self, sheet: &mut C, at: usize) -> Result<(), AllocError>
+        ensures kept { C.Calls.setting sheet.new ≡ C.Calls.setting sheet.old }
+        ensures acts { OnOk result (Sound (C.Calls.setting sheet.old) (C.Calls.state sheet.old) → Acts (C.Calls.setting sheet.old) (C.Calls.state sheet.old) self.old.gathered.items at 6 [] (C.Calls.state sheet.new) self.new.gathered.items self.old.text.items self.new.text.items) }
+    {
+        let answer = sheet.fair_copy(&mut self.bytes);
+        copied(at, answer, &self.bytes).write_to(&mut self.text)
+    }
+
+    fn verdict<C: Calls>(&mut self, sheet: &C, at: usize) -> Result<(), AllocError>
+        ensures acts { OnOk result (Sound (C.Calls.setting sheet.now) (C.Calls.state sheet.now) → Acts (C.Calls.setting sheet.now) (C.Calls.state sheet.now) self.old.gathered.items at 7 [] (C.Calls.state sheet.now) self.new.gathered.items self.old.text.items self.new.text.items) }
+    {
+        let answer = sheet.verdict();
+        answered(at, Command::Verdict, answer).write_to(&mut self.text)
+    }
+
+    fn act<C: Calls>(
+        &mut self,
+        sheet: &mut C,
+        command: Command<'_>,
+        at: usize,
+    ) -> Result<(), AllocError>
+        ensures kept { C.Calls.setting sheet.new ≡ C.Calls.setting sheet.old }
+        ensures acts { OnOk result (0 < byte_of command.entry → Sound (C.Calls.setting sheet.old) (C.Calls.state sheet.old) → Acts (C.Calls.setting sheet.old) (C.Calls.state sheet.old) self.old.gathered.items at (byte_of command.entry) (operands_of command.entry) (C.Calls.state sheet.new) self.new.gathered.items self.old.text.items self.new.text.items) }
+    {
+        match command {
+            // It was refused where it was read.
+            Command::Sheet(_) => Ok(()),
+            Command::Term(operands) => self.gather(operands),
+            Command::Add => self.add(sheet, at),
+            Command::Steps(operands) => self.steps(sheet, operands, at),
+            Command::Remainder => self.remainder(sheet, at),
+            Command::Row(operands) => self.row(sheet, operands, at),
+            Command::FairCopy => self.fair_copy(sheet, at),
+            Command::Verdict => self.verdict(sheet, at),
+        }
+    }
+
+    // Carries out the commands, of which the first stands behind the sheet command.
+    fn play<C: Calls>(&mut self, sheet: &mut C, input: &[u8]) -> Result<(), AllocError>
+        ensures { OnOk result (self.old.gathered.items ≡ [] → Ran (C.Calls.setting sheet.old) (C.Calls.state sheet.old) [] 7 input.now (C.Calls.state sheet.new) self.old.text.items self.new.text.items) }
+    {
+        let mut rest = input;
+        loop {
+            let at = SHEET_BYTES + (input.len() - rest.len());
+            match next_call(rest) {
+                Ok(None) => return Ok(()),
+                Ok(Some((command, behind))) => {
+                    self.act(sheet, command, at)?;
+                    rest = behind;
+                }
+                Err(fault) => return refused(at, fault).write_to(&mut self.text),
+            }
+        }
+    }
+}
+
+// The line of the making, and what the commands behind it write, on a new sheet.
+pub(crate) fn run<C: Calls>(
+    heap: Global,
+    sheet: &mut C,
+    input: &[u8],
+) -> Result<Vec<u8>, AllocError>
+    ensures { IfOk result (λ text. C.Calls.state sheet.old ≡ empty → Starts input.now (granted (C.Calls.setting sheet.old)) text.items) }
+{
+    let mut replay = Replay::new(heap);
+    made().write_to(&mut replay.text)?;
+    replay.play(sheet, input)?;
+    let Replay { text, .. } = replay;
+    Ok(text)
 }

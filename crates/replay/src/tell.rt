@@ -1,155 +1,158 @@
 // The line of each answer.
-ghost use Rattle.std.specs.Prelude.{◌≡◌, ◌≤◌, [], ◌++◌, length, IfOk, OnOk};
+ghost use Rattle.std.specs.Prelude.{◌≡◌, ◌≤◌, [], length, IfOk};
 ghost use Rattle.std.specs.Option.{option_map};
-ghost use Rattle.calls.specs.Told.{told, added, wrote, copied as copied_as, judged};
-ghost use Rattle.lines.specs.Line.{line};
-ghost use Rattle.replay.specs.Words.{answered, shown, copied, stepped, refused_line};
+ghost use Rattle.calls.specs.Told.{told, added, wrote, copied as copied_as};
+ghost use Rattle.lines.specs.Line.{line, line_text};
+ghost use Rattle.replay.specs.Grammar.{byte_of, fault_byte, fault_number, no_sheet_number};
+ghost use Rattle.replay.specs.Words.{answered as answered_line, shown as shown_line, copied as copied_line, stepped as stepped_line, refused_line};
 
+use crate::choose::NoSheet;
+use crate::command::{Command, Fault};
 use calls::answer::Copied;
 use calls::refusal::Refusal;
-use lines::{Fields, write_bytes_line, write_count_line, write_line, write_terms_line};
+use lines::{Line, More};
 use polynomial::term::Term;
 use std::alloc::{AllocError, Global};
 
+// The byte of the steps command.
+const STEPS: u8 = 3;
+
 // How many steps were granted, and what denied the next one.
 #[derive(Clone, Copy)]
-pub(crate) struct Stepped {
+pub(crate) struct Steps {
     pub(crate) granted: usize,
     pub(crate) denial: Option<Refusal>,
 }
 
-fn granted(at: usize, byte: u8, value: usize) -> Fields
-    ensures { result ≡ record { at = at; byte = byte; number = 0; value = value } }
+// The line of a command that is granted with that value.
+fn granted<'a>(at: usize, byte: u8, value: usize, more: More<'a>) -> Line<'a>
+    ensures { result ≡ record { at = at; byte = byte; number = 0; value = value; more = more.entry } }
 {
-    Fields {
+    Line {
         at,
         byte,
         number: 0,
         value,
+        more,
     }
 }
 
-fn denied(at: usize, byte: u8, refusal: Refusal) -> Fields
-    ensures { result ≡ record { at = at; byte = byte; number = (told refusal).number; value = (told refusal).place } }
+// The line of a command that its call denies.
+fn denied<'a>(at: usize, byte: u8, refusal: Refusal, more: More<'a>) -> Line<'a>
+    ensures { result ≡ record { at = at; byte = byte; number = (told refusal).number; value = (told refusal).place; more = more.entry } }
 {
-    Fields {
+    Line {
         at,
         byte,
         number: refusal.number(),
         value: refusal.place(),
+        more,
     }
 }
 
-pub(crate) fn write_added(
-    heap: Global,
-    out: &mut Vec<u8>,
+// The line of an add or a verdict.
+pub(crate) fn answered(
     at: usize,
+    command: Command<'_>,
     answer: Result<usize, Refusal>,
-) -> Result<(), AllocError>
-    ensures { OnOk result (out.new.items ≡ out.old.items ++ answered at 2 (added answer)) }
+) -> Line<'static>
+    ensures { line_text result ≡ answered_line at (byte_of command.entry) (added answer) }
 {
     match answer {
-        Ok(value) => write_line(heap, out, granted(at, 2, value)),
-        Err(refusal) => write_line(heap, out, denied(at, 2, refusal)),
+        Ok(value) => granted(at, command.byte(), value, More::Nothing),
+        Err(refusal) => denied(at, command.byte(), refusal, More::Nothing),
     }
 }
 
-pub(crate) fn write_judged(
-    heap: Global,
-    out: &mut Vec<u8>,
+// The line of a remainder or a row, of which the terms were written to the front of those lent.
+pub(crate) fn shown<'a>(
     at: usize,
+    command: Command<'a>,
     answer: Result<usize, Refusal>,
-) -> Result<(), AllocError>
-    ensures { OnOk result (out.new.items ≡ out.old.items ++ answered at 7 (judged answer)) }
-{
-    match answer {
-        Ok(value) => write_line(heap, out, granted(at, 7, value)),
-        Err(refusal) => write_line(heap, out, denied(at, 7, refusal)),
-    }
-}
-
-pub(crate) fn write_shown(
-    heap: Global,
-    out: &mut Vec<u8>,
-    at: usize,
-    byte: u8,
-    answer: Result<usize, Refusal>,
-    terms: &[Term],
-) -> Result<(), AllocError>
+    terms: &'a [Term],
+) -> Line<'a>
     requires { IfOk answer (λ n. n ≤ length terms.now) }
-    ensures { OnOk result (out.new.items ≡ out.old.items ++ shown at byte (wrote answer) terms.now) }
+    ensures { line_text result ≡ shown_line at (byte_of command.entry) (wrote answer) terms.now }
 {
     match answer {
-        Ok(n) => write_terms_line(heap, out, granted(at, byte, n), &terms[0..n]),
-        Err(refusal) => write_line(heap, out, denied(at, byte, refusal)),
+        Ok(n) => granted(at, command.byte(), n, More::Terms(&terms[..n])),
+        Err(refusal) => denied(at, command.byte(), refusal, More::Nothing),
     }
 }
 
-pub(crate) fn write_copied(
-    heap: Global,
-    out: &mut Vec<u8>,
-    at: usize,
-    answer: Result<Copied, Refusal>,
-    bytes: &[u8],
-) -> Result<(), AllocError>
+// The line of a fair copy, of which the bytes were written to the front of those lent.
+pub(crate) fn copied<'a>(at: usize, answer: Result<Copied, Refusal>, bytes: &'a [u8]) -> Line<'a>
     requires { IfOk answer (λ c. c.bytes ≤ length bytes.now) }
-    ensures { OnOk result (out.new.items ≡ out.old.items ++ copied at (copied_as answer) bytes.now) }
+    ensures { line_text result ≡ copied_line at (copied_as answer) bytes.now }
 {
+    let byte = Command::FairCopy.byte();
     match answer {
-        Ok(done) => {
-            let n = done.bytes;
-            write_bytes_line(heap, out, granted(at, 6, done.rows), &bytes[0..n])
-        }
-        Err(refusal) => write_line(heap, out, denied(at, 6, refusal)),
+        Ok(done) => granted(at, byte, done.rows, More::Bytes(&bytes[..done.bytes])),
+        Err(refusal) => denied(at, byte, refusal, More::Nothing),
     }
 }
 
-pub(crate) fn write_steps(
-    heap: Global,
-    out: &mut Vec<u8>,
-    at: usize,
-    steps: Stepped,
-) -> Result<(), AllocError>
-    ensures { OnOk result (out.new.items ≡ out.old.items ++ stepped at steps.granted (option_map told steps.denial)) }
+// The line of steps.
+pub(crate) fn stepped(at: usize, operands: &[u8; 2], steps: Steps) -> Line<'static>
+    ensures { line_text result ≡ stepped_line at steps.granted (option_map told steps.denial) }
 {
+    let byte = Command::Steps(operands).byte();
     let count = steps.granted;
     match steps.denial {
-        None => write_line(heap, out, granted(at, 3, count)),
-        Some(refusal) => write_count_line(heap, out, denied(at, 3, refusal), count),
+        None => granted(at, byte, count, More::Nothing),
+        Some(refusal) => denied(at, byte, refusal, More::Count(count)),
     }
 }
 
 // The line of the making: number 0 where the sheet is made.
-pub(crate) fn write_making(heap: Global, out: &mut Vec<u8>, number: u8) -> Result<(), AllocError>
-    ensures { OnOk result (out.new.items ≡ out.old.items ++ line 0 0 number 0 []) }
+fn making_line(number: u8) -> Line<'static>
+    ensures { line_text result ≡ line 0 0 number 0 [] }
 {
-    let fields = Fields {
+    Line {
         at: 0,
         byte: 0,
         number,
         value: 0,
-    };
-    write_line(heap, out, fields)
+        more: More::Nothing,
+    }
 }
 
-// A command that is not carried out.
-pub(crate) fn write_refused(
-    heap: Global,
-    out: &mut Vec<u8>,
-    at: usize,
-    byte: u8,
-    number: u8,
-) -> Result<(), AllocError>
-    ensures { OnOk result (out.new.items ≡ out.old.items ++ refused_line at byte number) }
+pub(crate) fn made() -> Line<'static>
+    ensures { line_text result ≡ line 0 0 0 0 [] }
 {
-    let fields = Fields {
+    making_line(0)
+}
+
+pub(crate) fn not_made(reason: NoSheet) -> Line<'static>
+    ensures { line_text result ≡ line 0 0 (no_sheet_number reason) 0 [] }
+{
+    making_line(reason.number())
+}
+
+// The line of a command that is not carried out.
+pub(crate) fn refused(at: usize, fault: Fault) -> Line<'static>
+    ensures { line_text result ≡ refused_line at (fault_byte fault) (fault_number fault) }
+{
+    let byte = fault.byte();
+    Line {
         at,
         byte,
-        number,
+        number: fault.number(),
         value: at,
-    };
-    if byte == 3 {
-        return write_count_line(heap, out, fields, 0);
+        // Refused steps tell that none was granted.
+        more: if byte == STEPS {
+            More::Count(0)
+        } else {
+            More::Nothing
+        },
     }
-    write_line(heap, out, fields)
+}
+
+// A text of one line.
+pub(crate) fn text_of(heap: Global, line: Line<'_>) -> Result<Vec<u8>, AllocError>
+    ensures { IfOk result (λ text. text.items ≡ line_text line.entry) }
+{
+    let mut text = Vec::new(heap);
+    line.write_to(&mut text)?;
+    Ok(text)
 }

@@ -1,45 +1,44 @@
-use Rattle.std.proofs.Common.{refl, ◌∙◌, arith}
-use Rattle.replay.proofs.Steppings.{stood_first, stood_mark, stood_append, stood_closed, stood_denied, stood_out, said, known}
+use Rattle.std.proofs.Common.{◌≡◌, ◌+◌, ◌-◌, suc, Ok, inl, inr, refl, sym, subst, ◌∙◌, arith}
+use Rattle.calls.specs.Told.{stepped}
+use Rattle.involutive.specs.Answers.{Steps}
 use Rattle.involutive.proofs.Soundness.{steps}
+use Rattle.replay.specs.Replay.{used_up, on_closed, on_denial}
+use Rattle.replay.proofs.Steppings.{Stood, Counts, stood_first, stood_more, stood_last, said, known}
+use Rattle.replay.proofs.play.repeat_step.Goals.{in-Marked, in-Appended}
 use Rattle.replay.proofs.play.repeat_step.Goals as goal
 
-pub loop-left-init : goal.loop-left-init
-loop-left-init g c = (refl, omega arith, λ w. (w, λ log. stood_first))
+pub steps-init : goal.steps-init
+steps-init g c = (refl, omega arith, λ w. (w, λ log. stood_first (omega arith)))
 
-pub returns-in-Closed : goal.returns-in-Closed
-returns-in-Closed g c = record {
-  kept = c.step.ensures.kept ∙ c.loop-left.invariant.0;
-  steps = λ w log. let i = c.loop-left.invariant.2 w in stood_closed c.loop-left.left c.loop-left-test.true (i.1 log) (known c.in-Closed.is (said c.loop-left.invariant.0 i.0 c.in-Ok.ensures.answer));
-}
+pub steps-preserved : goal.steps-preserved
+steps-preserved g c =
+    let S = g.C.Calls.setting c.args.sheet.now in
+    let s = g.C.Calls.state c.steps.sheet in
+    let s' = g.C.Calls.state c.step.new.self in
+    let i = c.steps.invariant in
+    let counts : Steps S s (stepped (Ok c.in-Ok.step)) s' → Counts S s s' = λ st. elim c.match-step-2.branch [ in-Marked w ↦ inl (known w.in-Marked.is st) | in-Appended w ↦ inr (known w.in-Appended.is st) ] in
+    let more : c.match-step-2.granted ≡ c.steps.granted + 1 = elim c.match-step-2.branch [ in-Marked w ↦ w.granted-is | in-Appended w ↦ w.granted-is ] in
+    let left : c.args.count - c.steps.counter ≡ suc (c.args.count - (c.steps.counter + 1)) = omega (arith, c.steps-test.true) in (
+      c.step.ensures.kept ∙ i.0,
+      omega (arith, more, i.1),
+      λ w.
+          let st = said i.0 (i.2 w).0 c.in-Ok.ensures.answer in
+          (steps S (g.met.C.Calls.lawful c.args.sheet.now) (i.2 w).0 st, λ log. subst (λ k. Stood S (g.C.Calls.state c.args.sheet.now) log c.args.count k s' (c.args.count - (c.steps.counter + 1))) (sym more) (stood_more left ((i.2 w).1 log) (counts st))),
+    )
 
-pub loop-left-preserved-in-Marked : goal.loop-left-preserved-in-Marked
-loop-left-preserved-in-Marked g c = (
-  c.step.ensures.kept ∙ c.loop-left.invariant.0,
-  omega arith,
-  λ w.
-      let i = c.loop-left.invariant.2 w in
-      let st = known c.in-Marked.is (said c.loop-left.invariant.0 i.0 c.in-Ok.ensures.answer) in
-      (steps (g.C.Calls.setting c.args.sheet.now) (g.met.C.Calls.lawful c.args.sheet.now) i.0 st, λ log. stood_mark c.loop-left.left c.loop-left-test.true (i.1 log) st),
-)
+pub returns-in-Err-clause-steps : goal.returns-in-Err-clause-steps
+returns-in-Err-clause-steps g c = λ w log.
+    let i = c.steps.invariant in
+    let left : c.args.count - c.steps.counter ≡ suc (c.args.count - (c.steps.counter + 1)) = omega (arith, c.steps-test.true) in
+    (_, stood_last left ((i.2 w).1 log) (on_denial (said i.0 (i.2 w).0 c.in-Err.ensures.answer)))
 
-pub loop-left-preserved : goal.loop-left-preserved
-loop-left-preserved g c = (
-  c.step.ensures.kept ∙ c.loop-left.invariant.0,
-  omega arith,
-  λ w.
-      let i = c.loop-left.invariant.2 w in
-      let st = known c.in-Appended.is (said c.loop-left.invariant.0 i.0 c.in-Ok.ensures.answer) in
-      (steps (g.C.Calls.setting c.args.sheet.now) (g.met.C.Calls.lawful c.args.sheet.now) i.0 st, λ log. stood_append c.loop-left.left c.loop-left-test.true (i.1 log) st),
-)
+pub returns-in-Closed-clause-steps : goal.returns-in-Closed-clause-steps
+returns-in-Closed-clause-steps g c = λ w log.
+    let i = c.steps.invariant in
+    let left : c.args.count - c.steps.counter ≡ suc (c.args.count - (c.steps.counter + 1)) = omega (arith, c.steps-test.true) in
+    (_, stood_last left ((i.2 w).1 log) (on_closed (known c.in-Closed.is (said i.0 (i.2 w).0 c.in-Ok.ensures.answer))))
 
-pub returns-in-Err : goal.returns-in-Err
-returns-in-Err g c = record {
-  kept = c.step.ensures.kept ∙ c.loop-left.invariant.0;
-  steps = λ w log. let i = c.loop-left.invariant.2 w in stood_denied c.loop-left.left c.loop-left-test.true (i.1 log) (said c.loop-left.invariant.0 i.0 c.in-Err.ensures.answer);
-}
-
-pub returns : goal.returns
-returns g c = record {
-  kept = c.loop-left.invariant.0;
-  steps = λ w log. stood_out c.loop-left.left c.loop-left-test.false ((c.loop-left.invariant.2 w).1 log);
-}
+pub returns-clause-steps : goal.returns-clause-steps
+returns-clause-steps g c = λ w log.
+    let none_left : c.args.count - c.steps.counter ≡ 0 = omega (arith, c.steps-test.false) in
+    (_, stood_last none_left ((c.steps.invariant.2 w).1 log) used_up)

@@ -1,20 +1,18 @@
-use Rattle.replay.specs.Replay.{faulty}
+use Rattle.std.proofs.Common.{◌∙◌, subst}
+use Rattle.replay.specs.Replay.{Starts}
 use Rattle.replay.proofs.Acting.{made_then}
-use Rattle.replay.proofs.Openings.{begun, other_first, nothing_read}
-use Rattle.replay.proofs.Playing.{read_unknown, read_short, read_none}
+use Rattle.replay.proofs.Openings.{begun, other_first, nothing_read, none_carried_out}
+use Rattle.replay.proofs.Playing.{read_none}
 use Rattle.replay.proofs.transcript.write.Goals as goal
 
 pub returns-in-Sheet : goal.returns-in-Sheet
-returns-in-Sheet c = made_then c.make.result c.make.ensures (λ _ a. begun c.args.input.now c.in-Some.is c.in-Ok.ensures c.in-Sheet.is a)
+returns-in-Sheet c = made_then c.start_by_field.result c.start_by_field.ensures (λ text a. begun c.args.input.now c.in-Ok-Some.field-0-is c.in-Ok-Some.ensures c.in-Sheet.is (subst (λ m. Starts c.in-Ok-Some.rest.now m text.items) c.read.ensures a))
 
-pub returns-in-Unknown : goal.returns-in-Unknown
-returns-in-Unknown c = made_then c.write_refused.result c.write_refused.ensures (λ _ t. record { text = _; bytes = t; is_so = faulty (read_unknown c.args.input.now c.in-Unknown.is c.in-Err.ensures) })
-
-pub returns-in-Short : goal.returns-in-Short
-returns-in-Short c = made_then c.write_refused-in-Short.result c.write_refused-in-Short.ensures (λ _ t. record { text = _; bytes = t; is_so = faulty (read_short c.args.input.now c.in-Short.is c.in-Err.ensures) })
-
-pub returns-in-None : goal.returns-in-None
-returns-in-None c = nothing_read c.args.input.now _ (read_none c.args.input.now c.in-None.is c.in-Ok.ensures)
+pub returns-in-Ok-None : goal.returns-in-Ok-None
+returns-in-Ok-None c = nothing_read c.args.input.now (read_none c.args.input.now c.in-Ok-None.field-0-is c.in-Ok-None.ensures) c.new.ensures.items
 
 pub returns-in_default : goal.returns-in_default
-returns-in_default c = made_then c.write_refused-in-Some.result c.write_refused-in-Some.ensures (λ _ t. other_first c.args.input.now c.in-Some.is c.in-Ok.ensures c.in_default.not-Sheet c.byte.ensures t)
+returns-in_default c = made_then c.text_of.result c.text_of.ensures (λ _ t. other_first c.args.input.now c.in-Ok-Some.field-0-is c.in-Ok-Some.ensures c.in_default.not-Sheet c.byte.ensures (t ∙ c.refused.ensures))
+
+pub returns-in-Err : goal.returns-in-Err
+returns-in-Err c = made_then c.text_of-in-Err.result c.text_of-in-Err.ensures (λ _ t. none_carried_out c.args.input.now c.in-Err.fault c.in-Err.ensures (t ∙ c.refused-in-Err.ensures))
