@@ -1,5 +1,5 @@
 -- From the first command to the transcript.
-use Rattle.std.proofs.Common.{◌≡◌, ℕ, ◌<◌, List, [], ◌++◌, Ok, Err, Some, Option, sym, ap, ◌∙◌, subst, Bor}
+use Rattle.std.proofs.Common.{◌≡◌, ℕ, List, [], ◌++◌, Ok, Err, Some, Option, sym, ap, ◌∙◌, subst, Bor}
 use Rattle.involutive.specs.Sheet.{Setting, State, empty}
 use Rattle.involutive.specs.Log.{After}
 use Rattle.lines.specs.Line.{line}
@@ -8,7 +8,7 @@ use Rattle.replay.specs.declared.command.Command.TheVariants.{Sheet}
 use Rattle.replay.specs.declared.command.Fault.{Fault}
 use Rattle.replay.specs.Words.{refused_line}
 use Rattle.replay.specs.Grammar.{byte_of, operands_of, fault_byte, fault_number, Reads}
-use Rattle.replay.specs.Replay.{CommandAt, Ran, Making, granted, refused, making, Starts, not_made, is_made, Transcript, nothing, faulty, not_a_sheet, starts}
+use Rattle.replay.specs.Replay.{CommandAt, Ran, granted, refused, making, Starts, not_made, is_made, Transcript, nothing, faulty, not_a_sheet, starts}
 use Rattle.replay.proofs.Playing.{read_some, read_fault, not_sheet}
 
 -- the making is refused with this line
