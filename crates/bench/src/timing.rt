@@ -11,22 +11,20 @@ const ROUNDS: u32 = 15;
 // A round of 2^24 repetitions takes long enough, whatever is repeated.
 const DOUBLINGS: u32 = 24;
 
-pub(crate) trait Work {
-    // Does the work so many times: how many nanoseconds it took.
-    fn repeat(&mut self, rt: &HostRuntime, times: u64) -> anyhow::Result<u64>;
-}
-
 // The nanoseconds since then.
 pub(crate) fn nanoseconds_since(rt: &HostRuntime, start: Instant) -> anyhow::Result<u64> {
     let elapsed = start.elapsed(rt)?.as_nanos();
     Ok(u64::try_from(elapsed).unwrap_or(u64::MAX))
 }
 
-// How often the work is done in a round.
-fn find_times<W: Work>(rt: &HostRuntime, work: &mut W) -> anyhow::Result<u64> {
+// How often the work is done in a round, where `repeat` does it so many times and tells how many nanoseconds that took.
+fn find_times<W: FnMut(u64) -> anyhow::Result<u64>>(repeat: &mut W) -> anyhow::Result<u64>
+    requires { W.IsAlwaysCallable repeat.old }
+    ensures { W.IsAlwaysCallable repeat.new }
+{
     let mut times: u64 = 1;
     for _ in 0..DOUBLINGS {
-        if work.repeat(rt, times)? >= ROUND {
+        if repeat(times)? >= ROUND {
             break;
         }
         times = times.saturating_mul(2);
@@ -34,12 +32,25 @@ fn find_times<W: Work>(rt: &HostRuntime, work: &mut W) -> anyhow::Result<u64> {
     Ok(times)
 }
 
-// The nanoseconds that the work takes once.
-pub(crate) fn time<W: Work>(rt: &HostRuntime, work: &mut W) -> anyhow::Result<u64> {
-    let times = find_times(rt, work)?;
+// The nanoseconds of the fastest round.
+fn find_fastest<W: FnMut(u64) -> anyhow::Result<u64>>(
+    mut repeat: W,
+    times: u64,
+) -> anyhow::Result<u64>
+    requires { W.IsAlwaysCallable repeat }
+{
     let mut best = u64::MAX;
     for _ in 0..ROUNDS {
-        best = best.min(work.repeat(rt, times)?);
+        best = best.min(repeat(times)?);
     }
+    Ok(best)
+}
+
+// The nanoseconds that the work takes once.
+pub(crate) fn time<W: FnMut(u64) -> anyhow::Result<u64>>(mut repeat: W) -> anyhow::Result<u64>
+    requires { W.IsAlwaysCallable repeat }
+{
+    let times = find_times(&mut repeat)?;
+    let best = find_fastest(repeat, times)?;
     Ok(best.checked_div(times).unwrap_or(0))
 }
