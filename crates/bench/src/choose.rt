@@ -1,54 +1,35 @@
-// The field, the order and the division that a problem names, chosen one after the other.
+// Measuring a problem over the field, the order and the division that it names.
 use crate::figures::{Figures, measure};
 use crate::problem::Problem;
-use anyhow::anyhow;
+use choice::choose::{Task, choose};
 use field::Field;
-use field::four::Four;
-use field::prime::Prime;
-use monomial::degree_lexicographic::DegreeLexicographic;
-use monomial::degree_reverse::DegreeReverse;
 use monomial::division::Division;
-use monomial::janet::Janet;
-use monomial::lexicographic::Lexicographic;
 use monomial::order::Order;
-use monomial::thomas::Thomas;
 
-fn measure_by_division<F: Field + Copy + Drop, O: Order + Copy + Drop>(
-    rt: &HostRuntime,
-    field: F,
-    order: O,
-    problem: &Problem,
-) -> anyhow::Result<Figures> {
-    if problem.operands.division == <Janet as monomial::division::Division>::CODE {
-        return measure(rt, field, order, Janet, problem);
-    }
-    if problem.operands.division == <Thomas as monomial::division::Division>::CODE {
-        return measure(rt, field, order, Thomas, problem);
-    }
-    Err(anyhow!("a problem names no division"))
+#[derive(Clone, Copy)]
+struct Measuring<'a> {
+    rt: &'a HostRuntime,
+    problem: &'a Problem,
 }
 
-fn measure_by_order<F: Field + Copy + Drop>(
-    rt: &HostRuntime,
-    field: F,
-    problem: &Problem,
-) -> anyhow::Result<Figures> {
-    match problem.operands.order {
-        1 => measure_by_division(rt, field, Lexicographic, problem),
-        2 => measure_by_division(rt, field, DegreeLexicographic, problem),
-        3 => measure_by_division(rt, field, DegreeReverse, problem),
-        _ => Err(anyhow!("a problem names no order")),
+impl Task for Measuring<'_> {
+    type Done = anyhow::Result<Figures>;
+
+    // Nothing is promised of times.
+    ghost gives = { λ _ _ _ _ _ _. Unit {0} };
+
+    fn run<F: Field + Copy + Drop, O: Order + Copy + Drop, D: Division + Copy + Drop>(
+        self,
+        field: F,
+        order: O,
+        division: D,
+        variables: usize,
+    ) -> anyhow::Result<Figures> {
+        measure(self.rt, field, order, division, variables, self.problem)
     }
 }
 
 // The figures of a problem.
 pub(crate) fn measure_problem(rt: &HostRuntime, problem: &Problem) -> anyhow::Result<Figures> {
-    let modulus = problem.operands.modulus;
-    if problem.operands.kind == 2 && modulus == 4 {
-        return measure_by_order(rt, Four, problem);
-    }
-    match Prime::new(modulus) {
-        Some(prime) => measure_by_order(rt, prime, problem),
-        None => Err(anyhow!("a problem names no field")),
-    }
+    choose(problem.operands, Measuring { rt, problem })?
 }

@@ -112,14 +112,15 @@ pub(crate) fn measure<F: Field + Copy + Drop, O: Order + Copy + Drop, D: Divisio
     field: F,
     order: O,
     division: D,
+    variables: usize,
     problem: &Problem,
 ) -> anyhow::Result<Figures> {
     let heap = rt.alloc();
     let generators = problem.generators.as_slice();
-    let variables = problem.operands.variables;
     let new_sheet = || {
-        Sheet::new(heap, field, order, division, variables)
-            .map_err(|_| anyhow!("a sheet could not be made"))
+        Sheet::new(heap, field, order, division, variables).map_err(|_| anyhow!(
+            "a sheet could not be made"
+        ))
     };
     let completing = time(|times| repeat_completing(rt, &new_sheet, generators, times))?;
     let mut sheet = new_sheet()?;

@@ -16,7 +16,7 @@ mod problem;
 mod timing;
 
 use crate::choose::measure_problem;
-use crate::problem::read_problem;
+use crate::problem::Problem;
 use anyhow::anyhow;
 use replay::transcript::transcript;
 use std::{env, fmt, fs};
@@ -70,7 +70,7 @@ fn check_all(rt: &HostRuntime, names: &str) -> anyhow::Result<()> {
 
 fn time_problem(rt: &HostRuntime, name: &str) -> anyhow::Result<()> {
     let input = read_input(rt, name)?;
-    let problem = read_problem(rt.alloc(), input.as_slice())?;
+    let problem = Problem::read(rt.alloc(), input.as_slice())?;
     let figures = measure_problem(rt, &problem)?;
     let rows = figures.size.rows;
     let steps = figures.size.steps;
@@ -96,13 +96,8 @@ fn wants_times(rt: &HostRuntime) -> anyhow::Result<bool> {
     let _ = arguments.next();
     match arguments.next() {
         None => Ok(false),
-        Some(word) => {
-            if word.as_str() == "time" {
-                Ok(true)
-            } else {
-                Err(anyhow!("the only argument is `time`"))
-            }
-        }
+        Some(word) if word.as_str() == "time" => Ok(true),
+        Some(_) => Err(anyhow!("the only argument is `time`")),
     }
 }
 

@@ -33,7 +33,10 @@ fn find_times<W: FnMut(u64) -> anyhow::Result<u64>>(repeat: &mut W) -> anyhow::R
 }
 
 // The nanoseconds of the fastest round.
-fn find_fastest<W: FnMut(u64) -> anyhow::Result<u64>>(mut repeat: W, times: u64) -> anyhow::Result<u64>
+fn find_fastest<W: FnMut(u64) -> anyhow::Result<u64>>(
+    mut repeat: W,
+    times: u64,
+) -> anyhow::Result<u64>
     requires { W.IsAlwaysCallable repeat }
 {
     let mut best = u64::MAX;

@@ -5,8 +5,8 @@ use Rattle.replay.specs.declared.command.Command.{Command}
 use Rattle.replay.specs.declared.command.Command.TheVariants.{Sheet, Term, Add, Steps, Remainder, Row, FairCopy, Verdict}
 use Rattle.replay.specs.declared.command.Fault.{Fault}
 use Rattle.replay.specs.declared.command.Fault.TheVariants.{Short, Unknown, Misplaced}
-use Rattle.replay.specs.declared.choose.NoSheet.{NoSheet}
-use Rattle.replay.specs.declared.choose.NoSheet.TheVariants.{Field, Variables, Order, Division}
+use Rattle.choice.specs.declared.unnamed.Unnamed.{Unnamed}
+use Rattle.choice.specs.declared.unnamed.Unnamed.TheVariants.{Field, Variables, Order, Division}
 use Rattle.replay.specs.Words.{operand_bytes}
 
 abbrev pub byte_of : Command → ℕ
@@ -56,7 +56,7 @@ fault_number (Short b) = 16
 fault_number (Misplaced b) = 17
 
 -- the number of a making that is refused
-abbrev pub no_sheet_number : NoSheet → ℕ
+abbrev pub no_sheet_number : Unnamed → ℕ
 no_sheet_number Field = 1
 no_sheet_number Variables = 2
 no_sheet_number Order = 3

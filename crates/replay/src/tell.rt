@@ -6,10 +6,10 @@ ghost use Rattle.lines.specs.Line.{line, line_text};
 ghost use Rattle.replay.specs.Grammar.{byte_of, fault_byte, fault_number, no_sheet_number};
 ghost use Rattle.replay.specs.Words.{answered as answered_line, shown as shown_line, copied as copied_line, stepped as stepped_line, refused_line};
 
-use crate::choose::NoSheet;
 use crate::command::{Command, Fault};
 use calls::answer::Copied;
 use calls::refusal::Refusal;
+use choice::unnamed::Unnamed;
 use lines::{Line, More};
 use polynomial::term::Term;
 use std::alloc::{AllocError, Global};
@@ -123,10 +123,22 @@ pub(crate) fn made() -> Line<'static>
     making_line(0)
 }
 
-pub(crate) fn not_made(reason: NoSheet) -> Line<'static>
+// The number by which the formats name what is missing.
+fn unnamed_number(reason: Unnamed) -> u8
+    ensures { result ≡ no_sheet_number reason }
+{
+    match reason {
+        Unnamed::Field => 1,
+        Unnamed::Variables => 2,
+        Unnamed::Order => 3,
+        Unnamed::Division => 4,
+    }
+}
+
+pub(crate) fn not_made(reason: Unnamed) -> Line<'static>
     ensures { line_text result ≡ line 0 0 (no_sheet_number reason) 0 [] }
 {
-    making_line(reason.number())
+    making_line(unnamed_number(reason))
 }
 
 // The line of a command that is not carried out.

@@ -6,7 +6,7 @@ ghost use Rattle.involutive.specs.Once.{OneAnswerEach};
 ghost use Rattle.involutive.specs.Sound.{SoundnessKept};
 ghost use Rattle.replay.specs.Replay.{Transcript, OneTranscript, most_input};
 
-use crate::choose::{Operands, start_by_field};
+use crate::choose::start;
 use crate::command::{Command, Fault, next};
 use crate::tell::{refused, text_of};
 use std::alloc::{AllocError, Global};
@@ -21,7 +21,7 @@ fn write(heap: Global, input: &[u8]) -> Result<Vec<u8>, AllocError>
     match next(input) {
         Ok(None) => Ok(Vec::new(heap)),
         Ok(Some((command, rest))) => match command {
-            Command::Sheet(bytes) => start_by_field(heap, Operands::read(bytes), rest),
+            Command::Sheet(bytes) => start(heap, bytes, rest),
             _ => text_of(heap, refused(0, Fault::Misplaced(command.byte()))),
         },
         Err(fault) => text_of(heap, refused(0, fault)),

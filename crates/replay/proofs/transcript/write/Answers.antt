@@ -1,12 +1,11 @@
-use Rattle.std.proofs.Common.{◌∙◌, subst}
-use Rattle.replay.specs.Replay.{Starts}
+use Rattle.std.proofs.Common.{◌∙◌}
 use Rattle.replay.proofs.Acting.{made_then}
 use Rattle.replay.proofs.Openings.{begun, other_first, nothing_read, none_carried_out}
 use Rattle.replay.proofs.Playing.{read_none}
 use Rattle.replay.proofs.transcript.write.Goals as goal
 
 pub returns-in-Sheet : goal.returns-in-Sheet
-returns-in-Sheet c = made_then c.start_by_field.result c.start_by_field.ensures (λ text a. begun c.args.input.now c.in-Ok-Some.field-0-is c.in-Ok-Some.ensures c.in-Sheet.is (subst (λ m. Starts c.in-Ok-Some.rest.now m text.items) c.read.ensures a))
+returns-in-Sheet c = made_then c.start.result c.start.ensures (λ text a. begun c.args.input.now c.in-Ok-Some.field-0-is c.in-Ok-Some.ensures c.in-Sheet.is a)
 
 pub returns-in-Ok-None : goal.returns-in-Ok-None
 returns-in-Ok-None c = nothing_read c.args.input.now (read_none c.args.input.now c.in-Ok-None.field-0-is c.in-Ok-None.ensures) c.new.ensures.items
