@@ -1,2 +1,3 @@
 pub mod Comparing
 pub mod Agreeing
+pub mod Filling

@@ -1,8 +1,9 @@
 -- Exponents, place by place; a place counts from 0.
-use Rattle.std.specs.Prelude.{◌≡◌, ℕ, zero, suc, ◌+◌, ◌-◌, ◌<◌, ◌≤◌, List, [], ◌∷◌, length, drop, slice_index, slice_index_or, refl}
+use Rattle.std.specs.Prelude.{◌≡◌, ℕ, zero, suc, ◌+◌, ◌-◌, ◌<◌, ◌≤◌, Bool, true, List, [], ◌∷◌, length, drop, slice_index, slice_index_or, nat_le, refl, Decides}
+use Rattle.std.specs.List.{zip, list_all}
 use Rattle.std.proofs.Common.{sym, ap, ◌∙◌, ⊎_elim, arith}
 use Rattle.std.proofs.lemmas.List.{drop_more}
-use Rattle.std.proofs.lemmas.Bool.{cases_lt}
+use Rattle.std.proofs.lemmas.Bool.{cases_lt, leb-true, le-leb, and_parts, and_from}
 use Rattle.monomial.specs.Monomial.{Wide, width, times, quotient, degree, Divides, Bounded}
 
 pub at_times : (u m : List ℕ) → length u ≡ length m → (i : ℕ) → slice_index (times u m) i ≡ slice_index u i + slice_index m i
@@ -77,6 +78,24 @@ pub product_from_places : (a b p : List ℕ) → Wide a → Wide b → Wide p �
 product_from_places a b p wa wb wp each =
     agree_all p (times a b) (wp ∙ sym (length_times a b (wa ∙ sym wb) ∙ wb)) (λ h l. each h (omega arith) ∙ sym (at_times a b (wa ∙ sym wb) h))
 
-pub quotient_from_places : (m u p : List ℕ) → Wide m → Wide u → Wide p → ((h : ℕ) → h < width → slice_index p h + slice_index u h ≡ slice_index m h) → p ≡ quotient m u
+pub quotient_from_places : (m u p : List ℕ) → Wide m → Wide u → Wide p → ((h : ℕ) → h < width → slice_index p h ≡ slice_index m h - slice_index u h) → p ≡ quotient m u
 quotient_from_places m u p wm wu wp each =
-    agree_all p (quotient m u) (wp ∙ sym (length_quotient m u (wm ∙ sym wu) ∙ wm)) (λ h l. omega (arith, each h (omega arith), at_quotient m u (wm ∙ sym wu) h))
+    agree_all p (quotient m u) (wp ∙ sym (length_quotient m u (wm ∙ sym wu) ∙ wm)) (λ h l. each h (omega arith) ∙ sym (at_quotient m u (wm ∙ sym wu) h))
+
+-- u divides m exactly where each pair of their exponents is in order
+abbrev ordered : List ℕ → List ℕ → Bool
+ordered u m = list_all (λ p. nat_le p.0 p.1) (zip u m)
+
+ordered_at : (u m : List ℕ) → length u ≡ length m → ordered u m ≡ true → (h : ℕ) → slice_index u h ≤ slice_index m h
+ordered_at [] m e t h = omega (arith, beyond [] h (omega arith))
+ordered_at (d ∷ u) [] e t h = absurd (omega arith)
+ordered_at (d ∷ u) (x ∷ m) e t zero = leb-true d x (and_parts (nat_le d x) (ordered u m) t).0
+ordered_at (d ∷ u) (x ∷ m) e t (suc h) = ordered_at u m (omega arith) (and_parts (nat_le d x) (ordered u m) t).1 h
+
+at_ordered : (u m : List ℕ) → length u ≡ length m → ((h : ℕ) → slice_index u h ≤ slice_index m h) → ordered u m ≡ true
+at_ordered [] m e a = refl
+at_ordered (d ∷ u) [] e a = absurd (omega arith)
+at_ordered (d ∷ u) (x ∷ m) e a = and_from (nat_le d x) (ordered u m) (le-leb d x (a zero)) (at_ordered u m (omega arith) (λ h. a (suc h)))
+
+pub zip_divides : (u m : List ℕ) → length u ≡ length m → Decides (list_all (λ p. nat_le p.0 p.1) (zip u m)) (Divides u m)
+zip_divides u m e = (λ t v. ordered_at u m e t (v - 1), λ d. at_ordered u m e (λ h. let k = d (suc h) in rw (low h) at k))

@@ -17,14 +17,8 @@ impl Order for DegreeLexicographic {
     ghost laws = { λ x. degree_lexicographic_laws };
 
     fn compare(&self, a: &Monomial, b: &Monomial) -> Ordering {
-        let sum_a = a.degree();
-        let sum_b = b.degree();
-        if sum_a < sum_b {
-            return Ordering::Less;
-        }
-        if sum_a > sum_b {
-            return Ordering::Greater;
-        }
-        compare_exponents(a, b)
+        a.degree()
+            .cmp(&b.degree())
+            .then_with(|| compare_exponents(a, b))
     }
 }

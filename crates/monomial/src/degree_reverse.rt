@@ -5,8 +5,8 @@ ghost use Rattle.std.specs.Ordering.{ordering_reverse};
 ghost use Rattle.monomial.specs.Order.{lexicographic, degree_reverse};
 ghost use Rattle.monomial.specs.Orders.{degree_reverse_laws};
 
+use crate::Monomial;
 use crate::order::Order;
-use crate::{Monomial, WIDTH};
 use std::cmp::Ordering;
 
 #[derive(Clone, Copy)]
@@ -18,15 +18,9 @@ impl Order for DegreeReverse {
     ghost laws = { λ x. degree_reverse_laws };
 
     fn compare(&self, a: &Monomial, b: &Monomial) -> Ordering {
-        let sum_a = a.degree();
-        let sum_b = b.degree();
-        if sum_a < sum_b {
-            return Ordering::Less;
-        }
-        if sum_a > sum_b {
-            return Ordering::Greater;
-        }
-        compare_from_last(a, b)
+        a.degree()
+            .cmp(&b.degree())
+            .then_with(|| compare_from_last(a, b))
     }
 }
 
@@ -34,13 +28,9 @@ impl Order for DegreeReverse {
 fn compare_from_last(a: &Monomial, b: &Monomial) -> Ordering
     ensures { result ≡ ordering_reverse (lexicographic (reverse a.now.exponents) (reverse b.now.exponents)) }
 {
-    for i in (0..WIDTH).rev() {
-        if a.exponents[i] < b.exponents[i] {
-            return Ordering::Greater;
-        }
-        if a.exponents[i] > b.exponents[i] {
-            return Ordering::Less;
-        }
-    }
-    Ordering::Equal
+    a.exponents
+        .iter()
+        .rev()
+        .cmp(b.exponents.iter().rev())
+        .reverse()
 }

@@ -1,6 +1,6 @@
 // An involutive division: it tells which variables are multiplicative for a member of a list of monomials.
 ghost use Rattle.std.specs.Prelude.{◌≡◌, ℕ, ◌-◌, ◌≤◌, length, MatchOption, slice_index_or};
-ghost use Rattle.monomial.specs.Monomial.{Wide, width};
+ghost use Rattle.monomial.specs.Monomial.{width};
 ghost use Rattle.monomial.specs.Division.{Split, DivisionLaws, Within, agrees, largest};
 ghost use Rattle.monomial.specs.Lists.{exponents_of};
 
@@ -40,15 +40,9 @@ pub(crate) fn find_member(list: &[Monomial], member: usize, variable: usize) -> 
 // Whether two monomials have the same exponents in the first variables.
 pub(crate) fn agree(a: &Monomial, b: &Monomial, count: usize) -> bool
     requires { count ≤ width }
-    ensures answer { result ≡ agrees count b.now.exponents a.now.exponents }
-    ensures wide { Wide a.now.exponents × Wide b.now.exponents }
+    ensures { result ≡ agrees count b.now.exponents a.now.exponents }
 {
-    for i in 0..count {
-        if a.exponents[i] != b.exponents[i] {
-            return false;
-        }
-    }
-    true
+    a.exponents[..count] == b.exponents[..count]
 }
 
 // Whether no member that has u's exponents in the first `before` variables has a larger exponent of the variable.
@@ -57,10 +51,5 @@ pub(crate) fn is_largest(list: &[Monomial], u: &Monomial, variable: usize, befor
     ensures { result ≡ largest (agrees before u.now.exponents) (exponents_of list.now) variable u.now.exponents }
 {
     let place = variable - 1;
-    for w in list {
-        if agree(w, u, before) && w.exponents[place] > u.exponents[place] {
-            return false;
-        }
-    }
-    true
+    list.iter().all(|w| !agree(w, u, before) || w.exponents[place] <= u.exponents[place])
 }

@@ -3,8 +3,8 @@ ghost use Rattle.std.specs.Prelude.{◌≡◌};
 ghost use Rattle.monomial.specs.Order.{lexicographic};
 ghost use Rattle.monomial.specs.Orders.{lexicographic_laws};
 
+use crate::Monomial;
 use crate::order::Order;
-use crate::{Monomial, WIDTH};
 use std::cmp::Ordering;
 
 #[derive(Clone, Copy)]
@@ -24,13 +24,5 @@ impl Order for Lexicographic {
 pub(crate) fn compare_exponents(a: &Monomial, b: &Monomial) -> Ordering
     ensures { result ≡ lexicographic a.now.exponents b.now.exponents }
 {
-    for i in 0..WIDTH {
-        if a.exponents[i] < b.exponents[i] {
-            return Ordering::Less;
-        }
-        if a.exponents[i] > b.exponents[i] {
-            return Ordering::Greater;
-        }
-    }
-    Ordering::Equal
+    a.exponents.cmp(&b.exponents)
 }

@@ -19,22 +19,28 @@ pub mod lexicographic;
 pub mod order;
 pub mod thomas;
 
-use division::agree;
+use std::array::from_fn;
 
 // How many exponents a monomial has.
 pub const WIDTH: usize = 6;
 
 // A product of powers of the variables x1 to x6, by its exponents.
-#[derive(Clone, Copy)]
+#[derive(Clone, Copy, PartialEq, Eq, Debug)]
 pub struct Monomial {
     pub exponents: [u8; WIDTH],
 }
 
 impl Monomial {
+    // The product of no variables.
+    pub const ONE: Monomial = Monomial {
+        exponents: [0; WIDTH],
+    };
+
     // The product, or nothing where an exponent of it does not fit a byte.
     pub fn product(&self, other: &Monomial) -> Option<Monomial>
         ensures { MatchOption result (Bounded 255 (times self.now.exponents other.now.exponents) → ⊥) (λ m. (m.exponents ≡ times self.now.exponents other.now.exponents) × Bounded 255 (times self.now.exponents other.now.exponents)) }
     {
+        // By index: an array made of a closure has no way out where a sum does not fit.
         let mut exponents = [0; WIDTH];
         for i in 0..WIDTH {
             exponents[i] = self.exponents[i].checked_add(other.exponents[i])?;
@@ -46,41 +52,36 @@ impl Monomial {
     pub fn is_same(&self, other: &Monomial) -> bool
         ensures { result ≡ same self.now.exponents other.now.exponents }
     {
-        agree(self, other, WIDTH)
+        self == other
     }
 
     // Whether this monomial divides the other.
     pub fn divides(&self, other: &Monomial) -> bool
         ensures { Decides result (Divides self.now.exponents other.now.exponents) }
     {
-        for i in 0..WIDTH {
-            if self.exponents[i] > other.exponents[i] {
-                return false;
-            }
-        }
-        true
+        self.exponents
+            .iter()
+            .zip(&other.exponents)
+            .all(|(mine, theirs)| mine <= theirs)
     }
 
     // The quotient, or nothing where the divisor does not divide this monomial.
     pub fn quotient(&self, divisor: &Monomial) -> Option<Monomial>
         ensures { MatchOption result (Divides divisor.now.exponents self.now.exponents → ⊥) (λ m. (m.exponents ≡ divided self.now.exponents divisor.now.exponents) × Divides divisor.now.exponents self.now.exponents) }
     {
-        let mut exponents = [0; WIDTH];
-        for i in 0..WIDTH {
-            exponents[i] = self.exponents[i].checked_sub(divisor.exponents[i])?;
+        if !divisor.divides(self) {
+            return None;
         }
-        Some(Monomial { exponents })
+        Some(Monomial {
+            exponents: from_fn(|i| self.exponents[i].saturating_sub(divisor.exponents[i])),
+        })
     }
 
     // The sum of the exponents.
     pub fn degree(&self) -> u16
         ensures { result ≡ degree_of self.now.exponents }
     {
-        let mut sum = 0;
-        for i in 0..WIDTH {
-            sum += u16::from(self.exponents[i]);
-        }
-        sum
+        self.exponents.iter().map(|e| u16::from(*e)).sum()
     }
 }
 

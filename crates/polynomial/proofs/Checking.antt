@@ -1,7 +1,8 @@
 -- The first check that fails, term by term; and what passes all checks is acceptable, and nothing else.
-use Rattle.std.proofs.Common.{◌≡◌, ℕ, zero, suc, ◌+◌, ◌-◌, ◌<◌, ◌≤◌, Bool, true, false, cond, eqb, ltb, leb, ◌⊎◌, List, [], ◌∷◌, length, get_or, drop, is_ok, Some, None, Decides, Option, Ordering, Less, Equal, Greater, sym, refl, ap, ◌∙◌, subst, inl, inr, ⊎_elim, add-one, arith}
+use Rattle.std.proofs.Common.{◌≡◌, ℕ, zero, suc, ◌+◌, ◌-◌, ◌<◌, ◌≤◌, Bool, true, false, cond, eqb, ltb, leb, ◌⊎◌, List, [], ◌∷◌, length, get_or, drop, is_ok, Some, None, Ok, Err, Decides, Option, Ordering, Less, Equal, Greater, sym, refl, ap, ◌∙◌, subst, inl, inr, ⊎_elim, ap₂, ◌&&◌, add-one, arith}
 use mathlib.Core.List.Memᴰ
 use mathlib.Core.List.{Memᴰ}
+use Rattle.std.specs.List.{list_all, enumerate_from}
 use Rattle.std.specs.Ordering.{is_lt}
 use Rattle.std.proofs.lemmas.List.{drop_more}
 use Rattle.std.proofs.lemmas.Bool.{and_parts, and_from, both_ways, cases_lt, leb-true, le-leb, ltb-true, lt-ltb, le-ltb, eqb-true, eq-eqb, cond-true, cond-false}
@@ -58,6 +59,15 @@ module _ (F : FieldMeaning) (O : Compare) (n : ℕ) where
   faults_more before f i d o h e =
       let z : term_fault F O n before (suc i) (get_or f i d) ≡ o = ap (λ k. term_fault F O n before k (get_or f i d)) (sym (add-one i)) ∙ sym e in
       ap (faults F O n before (suc i)) (drop_more f i d h) ∙ ap (λ x. or_else F O n x (faults F O n (Some (get_or f i d)) (suc (suc i)) (drop (i + 1) f))) z
+
+  -- the answers at one term
+  pub refused : (o : Option Refusal) (r : Refusal) → outcome o ≡ Err r → Some r ≡ o
+  refused None r e = let z : ◌≡◌ {A = ℕ} 0 1 = cc in absurd (omega arith)
+  refused (Some q) r e = cc
+
+  pub granted : (o : Option Refusal) → outcome o ≡ Ok tt → None ≡ o
+  granted None e = refl
+  granted (Some q) e = let z : ◌≡◌ {A = ℕ} 0 1 = cc in absurd (omega arith)
 
   pub fault_short : (f : Poly) → length f ≤ 40 → fault F O n f ≡ faults F O n None 1 f
   fault_short f h = cond-false _ _ _ (le-ltb 40 (length f) h)
@@ -147,3 +157,17 @@ module _ (F : FieldMeaning) (O : Compare) (n : ℕ) where
   pub accepts : (f : Poly) (o : Option Refusal) → o ≡ fault F O n f → Decides (is_ok (outcome o)) (Acceptable F O n f)
   accepts f None e = (λ _. acceptable_from f (sym e), λ _. refl)
   accepts f (Some r) e = (λ h. absurd (both_ways false refl h), λ a. let z : ◌≡◌ {A = ℕ} 0 1 = cc (no_fault_from f a) in absurd (omega arith))
+
+-- each exponent with its place, where the place counts from i
+abbrev pub limit : ℕ → ℕ → ℕ
+limit n i = cond (ltb i n) 40 0
+
+pub all_small : (n i : ℕ) (m : List ℕ) → list_all (λ p. leb p.1 (limit n p.0)) (enumerate_from i m) ≡ small_exponents (n - i) m
+all_small n i [] = refl
+all_small n i (e ∷ m) =
+    let z : (n - i) - 1 ≡ n - (i + 1) = omega arith in
+    let k : limit n i ≡ cond (ltb 0 (n - i)) 40 0 = ⊎_elim
+    (λ l. cond-true _ _ _ (lt-ltb i n l) ∙ sym (cond-true _ _ _ (lt-ltb 0 (n - i) (omega arith))))
+    (λ l. cond-false _ _ _ (le-ltb i n l) ∙ sym (cond-false _ _ _ (le-ltb 0 (n - i) (omega arith))))
+    (cases_lt i n) in
+    ap₂ (λ x y. leb e x && y) k (all_small n (i + 1) m ∙ ap (λ x. small_exponents x m) (sym z))

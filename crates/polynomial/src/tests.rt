@@ -1,11 +1,19 @@
 use crate::bytes::{NoRun, read_run, write_terms};
-use crate::check::check as checked;
 use crate::refusal::Refusal;
+use crate::ring::Ring;
 use crate::term::Term;
 use field::four::Four;
 use monomial::Monomial;
 use monomial::lexicographic::Lexicographic;
 use std::test::Fail;
+
+fn ring() -> Ring<Four, Lexicographic> {
+    Ring {
+        field: Four,
+        order: Lexicographic,
+        variables: 2,
+    }
+}
 
 fn power(coefficient: u16, exponent: u8) -> Term {
     Term {
@@ -31,18 +39,15 @@ fn with_term(number: usize, term: Term) -> Result<(), Refusal> {
     if number > 0 && number <= 40 {
         terms[number - 1] = term;
     }
-    checked(&Four, &Lexicographic, 2, &terms)
+    ring().check(&terms)
 }
 
 #[test]
 fn accepts_the_longest(rt: HostRuntime) {
     assert_eq!(rt; with_term(0, power(1, 0)), Ok(()));
-    assert_eq!(rt; checked(&Four, &Lexicographic, 2, &[]), Ok(()));
+    assert_eq!(rt; ring().check(&[]), Ok(()));
     let terms = [power(1, 1); 41];
-    assert_eq!(rt;
-        checked(&Four, &Lexicographic, 2, &terms),
-        Err(Refusal::TooManyTerms)
-    );
+    assert_eq!(rt; ring().check(&terms), Err(Refusal::TooManyTerms));
 }
 
 #[test]

@@ -1,17 +1,9 @@
-use Rattle.std.proofs.Common.{◌<◌, ◌≤◌, length, ap, arith, rules}
-use Rattle.std.proofs.lemmas.List.{drop_all}
-use Rattle.monomial.specs.Monomial.{degree}
-use Rattle.monomial.specs.Places.{degree_from}
+use Rattle.std.proofs.Common.{arith, rules}
+use Rattle.std.proofs.lemmas.Iterator.{YieldsList-from_slice}
+use Rattle.std.proofs.lemmas.Iterator.Adapters.{fits_from_length, at_most_from_yields_List}
+use borrow.Author.Tests.{tests}
 use Rattle.monomial.proofs.Monomial.degree.Goals as goal
 
-pub loop-i-preserved : goal.loop-i-preserved
-loop-i-preserved c =
-    let m = c.args.self.now.exponents in
-    let h : c.loop-i.i < length m = search rules in
-    (search rules, omega (arith, degree_from m c.loop-i.i h, c.from-sum.ensures))
-
-pub returns : goal.returns
-returns c =
-    let m = c.args.self.now.exponents in
-    let h : length m ≤ c.loop-i.i = search rules in
-    omega (arith, ap degree (drop_all c.loop-i.i m h))
+pub sum-requires-clause-fits : goal.sum-requires-clause-fits
+sum-requires-clause-fits c =
+    fits_from_length _ _ 6 _ (at_most_from_yields_List (YieldsList-from_slice c.args.self.now.exponents cc) (omega arith)) c.map.ensures.closure (omega arith) (λ x r q k. search (rules, tests))

@@ -1,5 +1,0 @@
-use Rattle.std.proofs.Common.{ℕ, ◌<◌, ◌≤◌, get_or}
-use Rattle.monomial.proofs.Monomial.divides.Given as goal
-
-abbrev pub invariant-loop-i : goal.invariant-loop-i
-invariant-loop-i l = (h : ℕ) → h < l.i → get_or l.self.exponents h 0 ≤ get_or l.other.exponents h 0
