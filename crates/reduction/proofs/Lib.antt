@@ -8,5 +8,6 @@ mod Subtracting
 mod Counting
 mod Divisors
 mod Acting
+pub mod Renaming
 mod Standing
 mod Turning

@@ -1,11 +1,9 @@
 -- From a sound table and what the search finds to the turns of reducing.
-use Rattle.std.proofs.Common.{◌≡◌, ℕ, zero, suc, ◌+◌, ◌-◌, ◌<◌, ◌≤◌, min, List, [], ◌∷◌, ◌++◌, length, get_or, take, drop, Some, None, Ok, Err, Result, MatchResult, sym, refl, ap, ◌∙◌, subst, append-nil, add-one, arith, length-append, take-append-drop, length-take}
+use Rattle.std.proofs.Common.{◌≡◌, ℕ, zero, suc, ◌+◌, ◌-◌, ◌<◌, ◌≤◌, min, List, [], ◌∷◌, ◌++◌, length, get_or, take, drop, Some, None, Ok, Err, Result, sym, refl, ap, ◌∙◌, subst, append-nil, add-one, arith, length-append, take-append-drop, length-take}
 use mathlib.Core.List.Memᴰ
 use mathlib.Core.List.{Memᴰ}
 use lib.ListN.{length-map}
 use Rattle.std.proofs.lemmas.List.{get_or-map, get_or-take, drop_more, take_all}
-use Rattle.std.specs.Result.{is_err, IsErrAnd}
-use Rattle.std.proofs.lemmas.Bool.{false≢true}
 use Rattle.field.specs.Field.{FieldMeaning}
 use Rattle.monomial.specs.Monomial.{Wide, In, quotient}
 use Rattle.monomial.specs.Order.{Compare}
@@ -40,24 +38,6 @@ element (x ∷ xs) (suc i) h = element xs i (omega arith)
 
 low : (i : ℕ) → suc i - 1 ≡ i
 low i = omega arith
-
--- what a refusal with another name, or none, was before
-pub renamed : {E D : Type 0} (x : Result (Unit {0}) E) (y : Result (Unit {0}) D) (P : E → D → Type 0) → MatchResult x (λ u. y ≡ Ok u) (λ e. IsErrAnd y (P e)) → (d : D) → y ≡ Err d → (e : E) × (x ≡ Err e) × P e d
-renamed (Ok u) y P m d q = absurd (false≢true (ap is_err (sym m ∙ q)))
-renamed (Err e) (Ok u) P m d q = absurd m
-renamed (Err e) (Err b) P m d q = (e, refl, subst (P e) (err_same b d q) m)
-  where
-    err_same : {D : Type 0} (b d : D) → ◌≡◌ {A = Result (Unit {0}) D} (Err b) (Err d) → b ≡ d
-    err_same b d q = cc q
-
-pub unrefused : {E D : Type 0} (x : Result (Unit {0}) E) (y : Result (Unit {0}) D) (P : E → D → Type 0) → MatchResult x (λ u. y ≡ Ok u) (λ e. IsErrAnd y (P e)) → (u : Unit {0}) → y ≡ Ok u → x ≡ Ok tt
-unrefused (Ok v) y P m u q = refl
-unrefused (Err e) (Ok v) P m u q = absurd m
-unrefused (Err e) (Err b) P m u q = absurd (false≢true (sym (ap is_err q)))
-
-pub refused_is : {D : Type 0} (y : Result (Unit {0}) D) (d : D) → IsErrAnd y (λ e. e ≡ d) → y ≡ Err d
-refused_is (Ok u) d h = absurd h
-refused_is (Err e) d h = ap Err h
 
 first_of : (f : Poly) → leading_coefficient f ≡ 1 → (l : Term) × (f ≡ l ∷ drop 1 f)
 first_of [] e = absurd (let z : ◌≡◌ {A = ℕ} 0 1 = e in omega arith)

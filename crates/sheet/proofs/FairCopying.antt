@@ -63,7 +63,7 @@ others (t ∷ f) a = (
 )
 
 -- what was loaded are the other terms, where the row may be handed over
-pub loaded_others : {F : FieldMeaning} {O : Compare} {n : ℕ} (f whole back old new : Poly) (r : Bool) → whole ≡ f → back ≡ drop 1 whole → Acceptable F O n f → (r ≡ leb (length back) most_terms) × (new ≡ cond r back old) → new ≡ drop 1 f
+pub loaded_others : {E : Type 0} {F : FieldMeaning} {O : Compare} {n : ℕ} (f whole back old new : Poly) (r : Result (Unit {0}) E) → whole ≡ f → back ≡ drop 1 whole → Acceptable F O n f → MatchResult r (λ _. (length back ≤ most_terms) × (new ≡ back)) (λ _. (most_terms < length back) × (new ≡ old)) → new ≡ drop 1 f
 loaded_others f whole back old new r p q a e =
     let d : back ≡ drop 1 f = q ∙ ap (drop 1) p in
     let l : length back ≤ 39 = subst (λ x. length x ≤ 39) (sym d) (others f a).1 in

@@ -8,6 +8,7 @@ ghost use Rattle.sheet.specs.Rows.{lead_of, flags_of, Asked, Refreshed};
 use monomial::division::Division;
 use monomial::{Monomial, WIDTH};
 use reduction::table::Row;
+use std::array::from_fn;
 
 // The leading monomials, in a list of their own.
 pub(crate) fn list_leaders(rows: &[Row], leaders: &mut Vec<Monomial>)
@@ -22,36 +23,21 @@ pub(crate) fn list_leaders(rows: &[Row], leaders: &mut Vec<Monomial>)
 }
 
 // What the division says of one member.
-#[derive(Clone, Copy)]
-pub(crate) struct Flags {
-    pub(crate) set: [bool; WIDTH],
-}
-
-fn ask_all<D: Division>(division: &D, list: &[Monomial], member: usize) -> Flags
-    ensures { Asked (D.Division.meaning division.now) (exponents_of list.now) member result.set }
+fn ask_all<D: Division>(division: &D, list: &[Monomial], member: usize) -> [bool; WIDTH]
+    ensures { Asked (D.Division.meaning division.now) (exponents_of list.now) member result }
 {
-    let mut set = [false; WIDTH];
-    for i in 0..WIDTH {
-        set[i] = division
+    from_fn(|i| {
+        division
             .multiplicative(list, member, i + 1)
-            .unwrap_or(false);
-    }
-    Flags { set }
-}
-
-fn set_flags(row: &mut Row, flags: Flags)
-    ensures { (terms_of row.new ≡ terms_of row.old) × (lead_of row.new ≡ lead_of row.old) × (flags_of row.new ≡ flags.set) }
-{
-    let set = flags.set;
-    row.lead.multiplicative = set;
+            .unwrap_or(false)
+    })
 }
 
 // Asks the division anew for every row.
 pub(crate) fn refresh<D: Division>(division: &D, list: &[Monomial], rows: &mut [Row])
     ensures { Refreshed (D.Division.meaning division.now) (exponents_of list.now) rows.old rows.new }
 {
-    for i in 0..rows.len() {
-        let flags = ask_all(division, list, i + 1);
-        set_flags(&mut rows[i], flags);
+    for (i, row) in rows.iter_mut().enumerate() {
+        row.lead.multiplicative = ask_all(division, list, i + 1);
     }
 }

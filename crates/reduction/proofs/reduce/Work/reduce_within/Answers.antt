@@ -8,7 +8,8 @@ use borrow.Author.Tests.{tests}
 use Rattle.involutive.proofs.Typing.{Ground}
 use Rattle.reduction.proofs.AddingUp.{extend_fits, extend_all}
 use Rattle.reduction.proofs.Standing.{Stands, begun, used_up}
-use Rattle.reduction.proofs.Turning.{renamed, unrefused, refused_is, finished, front_fits, act, stop}
+use Rattle.reduction.proofs.Renaming.{renamed, unrefused}
+use Rattle.reduction.proofs.Turning.{finished, front_fits, act, stop}
 use Rattle.reduction.proofs.reduce.Work.reduce_within.Goals as goal
 
 pub loop-turn-init : goal.loop-turn-init
@@ -56,7 +57,8 @@ returns-in_err-map_err-in-Some g c D n s a b l =
     let e = renamed c.cancel.result c.map_err.result _ c.map_err.ensures.cases d c.in_err-map_err-in-Some.was in
     let q = e.2 in
     let is : d ≡ record { reason = e.0; row = c.in-Some.k + 1 } = search (rules, tests) in
-    subst (λ r. Reduces (G n).field (G n).order D n (table_of rows) c.args.room h (outcome r (vec_items c.extend-in-Some.new.self.terms))) (sym (refused_is c.from_residual.result d c.from_residual.ensures.1 ∙ ap Err is))
+    let z : c.from_residual.result ≡ Err d = search rules in
+    subst (λ r. Reduces (G n).field (G n).order D n (table_of rows) c.args.room h (outcome r (vec_items c.extend-in-Some.new.self.terms))) (sym (z ∙ ap Err is))
     (stop (G n) D rows s c.args.room h fine xs c.loop-turn.turn st c.in-Some.i c.in-Some.k c.in-Some.ensures c.index-table-k.result c.index-table-k.is
     c.min-most.result (omega (arith, c.min-most.ensures)) c.extend-in-Some.result fine' c.extend-in-Some.ensures
     b c.min-most.ensures c.len.result len _ (take_rest xs (c.in-Some.i + 1)) c.cancel.result e.0 _ e.1 c.cancel.ensures)
