@@ -9,22 +9,21 @@ ghost use Rattle.reduction.specs.Merging.{image as imaged, code_sum, capped_prod
 
 use crate::buffer::{Buffer, NoRoom};
 use field::Field;
+use monomial::Monomial;
 use monomial::order::Order;
-use monomial::{Monomial, WIDTH};
 use polynomial::check::LARGEST_EXPONENT;
 use polynomial::ring::Ring;
 use polynomial::term::Term;
+use std::array::from_fn;
 use std::cmp::Ordering;
 
 // The product of two monomials. An exponent above 255 becomes 255: no multiple that is kept has one above 40.
 fn multiply(a: &Monomial, b: &Monomial) -> Monomial
     ensures { result.exponents ≡ capped_product a.now.exponents b.now.exponents }
 {
-    let mut exponents = [0; WIDTH];
-    for i in 0..WIDTH {
-        exponents[i] = a.exponents[i].saturating_add(b.exponents[i]);
+    Monomial {
+        exponents: from_fn(|i| a.exponents[i].saturating_add(b.exponents[i])),
     }
-    Monomial { exponents }
 }
 
 // The factor times a term.
@@ -32,9 +31,7 @@ pub(crate) fn image<F: Field>(field: &F, factor: &Term, term: &Term) -> Term
     ensures { result ≡ imaged (F.Field.meaning field.now) factor.now.coefficient (exponents_of factor.now) term.now }
 {
     Term {
-        coefficient: field
-            .mul(factor.coefficient, term.coefficient)
-            .unwrap_or(0),
+        coefficient: field.mul(factor.coefficient, term.coefficient).unwrap_or(0),
         monomial: multiply(&factor.monomial, &term.monomial),
     }
 }
@@ -75,10 +72,7 @@ fn find_place<O: Order>(order: &O, terms: &[Term], other: &Term) -> Result<usize
 fn join<F: Field>(field: &F, term: &Term, other: &Term) -> Option<Term>
     ensures { MatchOption result (code_sum (F.Field.meaning field.now) term.now.coefficient other.now.coefficient ≡ 0) (λ sum. (0 < code_sum (F.Field.meaning field.now) term.now.coefficient other.now.coefficient) × (sum ≡ joined (code_sum (F.Field.meaning field.now) term.now.coefficient other.now.coefficient) (exponents_of term.now))) }
 {
-    match field
-        .add(term.coefficient, other.coefficient)
-        .unwrap_or(0)
-    {
+    match field.add(term.coefficient, other.coefficient).unwrap_or(0) {
         0 => None,
         coefficient => Some(Term {
             coefficient,

@@ -40,14 +40,7 @@ fn cancel<F: Field, O: Order>(
         coefficient: term.coefficient,
         monomial: quotient(&term.monomial, &row.lead.monomial),
     };
-    subtract(
-        ring,
-        behind,
-        &row.terms.as_slice()[1..],
-        &factor,
-        room,
-        out,
-    )
+    subtract(ring, behind, &row.terms.as_slice()[1..], &factor, room, out)
 }
 
 // The buffers that reducing needs: what is still to be reduced, what is done, and one for the differences.
@@ -61,7 +54,7 @@ pub struct Work {
 impl Work {
     // Empty buffers, or want of memory.
     pub fn new(heap: Global) -> Result<Work, AllocError>
-        ensures { IfOk result (λ work. (work.rest.terms.items ≡ []) × (work.done.terms.items ≡ [])) }
+        ensures { IfOk result (λ work. (work.rest.terms.items ≡ []) × (work.done.terms.items ≡ []) × (work.spare.terms.items ≡ [])) }
     {
         let rest = Buffer::new(heap)?;
         let done = Buffer::new(heap)?;
@@ -93,14 +86,16 @@ impl Work {
             let terms = rest.terms.as_slice();
             match find_reducible(table, terms) {
                 None => {
+                    // There is room where the contract promises anything.
                     let _ = done.extend(terms, most);
                     return Ok(());
                 }
                 Some((i, k)) => {
                     let _ = done.extend(&terms[..i], most);
                     let free = most - done.terms.len();
-                    cancel(ring, &table[k], &terms[i], &terms[i + 1..], free, spare)
-                        .map_err(|reason| Denied { reason, row: k + 1 })?;
+                    cancel(ring, &table[k], &terms[i], &terms[i + 1..], free, spare).map_err(
+                        |reason| Denied { reason, row: k + 1 },
+                    )?;
                     std::mem::swap(rest, spare);
                 }
             }

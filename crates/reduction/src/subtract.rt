@@ -10,21 +10,20 @@ use crate::buffer::Buffer;
 use crate::merge::{add_multiple, fits};
 use crate::refusal::Reason;
 use field::Field;
+use monomial::Monomial;
 use monomial::order::Order;
-use monomial::{Monomial, WIDTH};
 use polynomial::check::MOST_TERMS;
 use polynomial::ring::Ring;
 use polynomial::term::Term;
+use std::array::from_fn;
 
 // m / u, with 0 for each exponent of m that is below u's.
 pub(crate) fn quotient(m: &Monomial, u: &Monomial) -> Monomial
     ensures { result.exponents ≡ divided m.now.exponents u.now.exponents }
 {
-    let mut exponents = [0; WIDTH];
-    for i in 0..WIDTH {
-        exponents[i] = m.exponents[i].saturating_sub(u.exponents[i]);
+    Monomial {
+        exponents: from_fn(|i| m.exponents[i].saturating_sub(u.exponents[i])),
     }
-    Monomial { exponents }
 }
 
 // The terms less the factor times a row into the buffer, unless an exponent of the multiple is above 40, or else the

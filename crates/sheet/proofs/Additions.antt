@@ -1,5 +1,5 @@
 -- What add answers, from what became of the generator.
-use Rattle.std.proofs.Common.{◌≡◌, ℕ, ◌<◌, ◌≤◌, [], ◌∷◌, length, Some, None, Ok, Err, Option, Result, MatchResult, refl, ap, ◌∙◌, subst, arith, length-append}
+use Rattle.std.proofs.Common.{◌≡◌, ℕ, ◌<◌, ◌≤◌, [], ◌∷◌, length, Some, None, Ok, Err, Option, Result, MatchResult, refl, ap, subst, arith, length-append}
 use Rattle.monomial.specs.Monomial.{one}
 use Rattle.polynomial.specs.declared.refusal.Refusal.{Refusal as Unfit}
 use Rattle.polynomial.specs.Polynomial.{Poly}

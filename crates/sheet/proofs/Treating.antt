@@ -9,7 +9,7 @@ use Rattle.polynomial.specs.Check.{Acceptable, Fits, most_terms}
 use Rattle.involutive.specs.Reduction.{refuse, row}
 use Rattle.involutive.specs.Value.{scaled}
 use Rattle.involutive.specs.Sheet.{Setting, Lawful, State, Chosen, with_mark}
-use Rattle.involutive.specs.Answers.{Answer, Steps, denied, marked_answer, appended_answer, step_wide, step_stuck, step_mark, step_full, step_row}
+use Rattle.involutive.specs.Answers.{Steps, denied, marked_answer, appended_answer, step_wide, step_stuck, step_mark, step_full, step_row}
 use Rattle.involutive.specs.Sound.{Row as Good}
 use Rattle.involutive.proofs.Monomials
 use Rattle.involutive.proofs.Typing.{ground_of}

@@ -67,11 +67,7 @@ impl Table {
             Ok(row) => {
                 self.rows.push_reserved(row);
                 list_leaders(self.rows.as_slice(), &mut self.leaders);
-                refresh(
-                    division,
-                    self.leaders.as_slice(),
-                    self.rows.as_mut_slice(),
-                );
+                refresh(division, self.leaders.as_slice(), self.rows.as_mut_slice());
                 Ok(())
             }
         }

@@ -138,12 +138,6 @@ pub(crate) fn write_fair_copy<F: Field, O: Order>(
     ensures answer { (D : Split) (n : ℕ) (xs : List (List Bool)) → SoundTable (setting (F.Field.meaning ring.now.field) (O.Order.meaning ring.now.order) D n) rows.now → Sound (setting (F.Field.meaning ring.now.field) (O.Order.meaning ring.now.order) D n) (state_of rows.now xs) → Closed (setting (F.Field.meaning ring.now.field) (O.Order.meaning ring.now.order) D n) (state_of rows.now xs) → FairCopies (setting (F.Field.meaning ring.now.field) (O.Order.meaning ring.now.order) D n) (state_of rows.now xs) out.old (copied result) out.new }
 {
     select(&ring.order, rows, &mut buffer.list);
-    copy_rows(
-        ring,
-        rows,
-        buffer.list.as_slice(),
-        work,
-        &mut buffer.bytes,
-    )?;
+    copy_rows(ring, rows, buffer.list.as_slice(), work, &mut buffer.bytes)?;
     write_copy(buffer.list.len(), buffer.bytes.as_slice(), out)
 }

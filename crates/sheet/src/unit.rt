@@ -8,5 +8,6 @@ use reduction::table::Row;
 pub(crate) fn leads_with_one(rows: &[Row]) -> bool
     ensures { result ≡ has_unit rows.now }
 {
-    rows.iter().any(|row| row.lead.monomial.is_same(&Monomial::ONE))
+    rows.iter()
+        .any(|row| row.lead.monomial.is_same(&Monomial::ONE))
 }

@@ -85,17 +85,19 @@ loop-term-preserved g c =
           let left : c.match-find_place.rest.now ≡ drop (suc k) rest = ap (λ b. b.now) w.rest-is ∙ take_rest rest (k + 1) ∙ ap (λ i. drop i rest) (add-one k) in
           elim w.match-join.branch [
             | in-Some+in_ok-push-in-Ok v ↦
-              let d = v.in_ok-push-in-Ok.ensures in
-              let j = v.in-Some.ensures in
-              let is = ap (λ b. vec_items b.terms) (w.out-is ∙ v.out-is) in
-              (omega (arith, d.0, ap length d.1, ap length is, length-append (vec_items w.extend.new.self.terms) (v.in-Some.sum ∷ [])),
-              λ r m. turned F O I h row rest c.loop-term.term-index out c.loop-term.invariant.1 s (term 0 []) (omega arith) c.image-other.ensures
-                  _ _ (λ f. f) (met_both F O s rest k place.1 place.0 place.2 (term 0 []) j.0) _ (is ∙ behind out _ _ _ _ e.1 (d.1 ∙ ap (λ x. vec_items w.extend.new.self.terms ++ x ∷ []) j.1)) r (subst (λ x. Sums F O x (map I (drop (c.loop-term.term-index + 1) row)) r) left m))
+                let d = v.in_ok-push-in-Ok.ensures in
+                let j = v.in-Some.ensures in
+                let is = ap (λ b. vec_items b.terms) (w.out-is ∙ v.out-is) in (
+                  omega (arith, d.0, ap length d.1, ap length is, length-append (vec_items w.extend.new.self.terms) (v.in-Some.sum ∷ [])),
+                  λ r m. turned F O I h row rest c.loop-term.term-index out c.loop-term.invariant.1 s (term 0 []) (omega arith) c.image-other.ensures
+                      _ _ (λ f. f) (met_both F O s rest k place.1 place.0 place.2 (term 0 []) j.0) _ (is ∙ behind out _ _ _ _ e.1 (d.1 ∙ ap (λ x. vec_items w.extend.new.self.terms ++ x ∷ []) j.1)) r (subst (λ x. Sums F O x (map I (drop (c.loop-term.term-index + 1) row)) r) left m),
+                )
             | in_default v ↦
-              let is = ap (λ b. vec_items b.terms) (w.out-is ∙ v.out-is) in
-              (omega (arith, e.0, ap length e.1, ap length is, length-append out (take k rest)),
-              λ r m. turned F O I h row rest c.loop-term.term-index out c.loop-term.invariant.1 s (term 0 []) (omega arith) c.image-other.ensures
-                  (take k rest) (drop (suc k) rest) (λ f. f) (met_gone F O s rest k place.1 place.0 place.2 (term 0 []) v.in_default.ensures) _ (is ∙ e.1) r (subst (λ x. Sums F O x (map I (drop (c.loop-term.term-index + 1) row)) r) left m))
+                let is = ap (λ b. vec_items b.terms) (w.out-is ∙ v.out-is) in (
+                  omega (arith, e.0, ap length e.1, ap length is, length-append out (take k rest)),
+                  λ r m. turned F O I h row rest c.loop-term.term-index out c.loop-term.invariant.1 s (term 0 []) (omega arith) c.image-other.ensures
+                      (take k rest) (drop (suc k) rest) (λ f. f) (met_gone F O s rest k place.1 place.0 place.2 (term 0 []) v.in_default.ensures) _ (is ∙ e.1) r (subst (λ x. Sums F O x (map I (drop (c.loop-term.term-index + 1) row)) r) left m),
+                )
           ]
       | in-Err+in_ok-extend-in-Err+in_ok-push-in-Err w ↦
           let k = w.in-Err.at in
@@ -103,8 +105,9 @@ loop-term-preserved g c =
           let e = w.in_ok-extend-in-Err.ensures in
           let d = w.in_ok-push-in-Err.ensures in
           let is = ap (λ b. vec_items b.terms) w.out-is in
-          let left : c.match-find_place.rest.now ≡ drop k rest = ap (λ b. b.now) w.rest-is ∙ take_rest rest k in
-          (omega (arith, d.0, ap length d.1, ap length is, length-append (vec_items w.extend-in-Err.new.self.terms) (s ∷ [])),
-          λ r m. turned F O I h row rest c.loop-term.term-index out c.loop-term.invariant.1 s (term 0 []) (omega arith) c.image-other.ensures
-              (take k rest ++ s ∷ []) (drop k rest) (λ f. f) (met_alone F O s rest k place.1 place.0 place.2) _ (is ∙ behind out (take k rest) (s ∷ []) _ _ e.1 d.1) r (subst (λ x. Sums F O x (map I (drop (c.loop-term.term-index + 1) row)) r) left m))
+          let left : c.match-find_place.rest.now ≡ drop k rest = ap (λ b. b.now) w.rest-is ∙ take_rest rest k in (
+            omega (arith, d.0, ap length d.1, ap length is, length-append (vec_items w.extend-in-Err.new.self.terms) (s ∷ [])),
+            λ r m. turned F O I h row rest c.loop-term.term-index out c.loop-term.invariant.1 s (term 0 []) (omega arith) c.image-other.ensures
+                (take k rest ++ s ∷ []) (drop k rest) (λ f. f) (met_alone F O s rest k place.1 place.0 place.2) _ (is ∙ behind out (take k rest) (s ∷ []) _ _ e.1 d.1) r (subst (λ x. Sums F O x (map I (drop (c.loop-term.term-index + 1) row)) r) left m),
+          )
     ]

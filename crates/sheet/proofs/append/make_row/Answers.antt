@@ -1,4 +1,4 @@
-use Rattle.std.proofs.Common.{unwrap_or, sym, ap, ◌∙◌, subst, ⊎_elim, arith}
+use Rattle.std.proofs.Common.{unwrap_or, sym, ap, ◌∙◌, subst}
 use Rattle.monomial.specs.Monomial.{one}
 use Rattle.polynomial.specs.Check.{Fits}
 use Rattle.involutive.specs.Value.{scaled}

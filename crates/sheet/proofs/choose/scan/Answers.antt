@@ -1,7 +1,7 @@
-use Rattle.std.proofs.Common.{◌≡◌, suc, ◌+◌, ◌-◌, ◌<◌, sym, ap, ◌∙◌, arith}
+use Rattle.std.proofs.Common.{◌≡◌, suc, ◌+◌, ◌-◌, sym, ap, ◌∙◌, arith}
 use Rattle.sheet.specs.Marks.{rows_of}
-use Rattle.sheet.specs.Choosing.{scanned, consider}
-use Rattle.sheet.proofs.Searching.{scan_step, scan_last, scan_end}
+use Rattle.sheet.specs.Choosing.{scanned}
+use Rattle.sheet.proofs.Searching.{scan_step, scan_end}
 use Rattle.sheet.proofs.choose.scan.Goals as goal
 
 pub loop-v-init : goal.loop-v-init
@@ -18,4 +18,3 @@ loop-v-preserved g c =
 
 pub returns : goal.returns
 returns g c = sym (scan_end (g.O.Order.meaning c.args.ring.now.order) c.args.lead.now (rows_of c.args.marks.now) c.args.k c.args.ring.now.variables c.loop-v.v c.loop-v.best c.loop-v-test.false) ∙ c.loop-v.invariant
-

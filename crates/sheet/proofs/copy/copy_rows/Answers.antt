@@ -22,18 +22,18 @@ returns-in_err-copy_row g c =
     let d = c.in_err-copy_row.field-0.0 in
     let z : c.from_residual.result ≡ Err d = search rules in
     rw z (record {
-  room = omega (arith, c.loop-k.invariant.1, c.copy_row.ensures.room);
-  copies = λ D n xs I.
-      let S = setting (g.F.Field.meaning c.args.ring.now.field) (g.O.Order.meaning c.args.ring.now.order) D n in
-      let rows = c.args.rows.now in
-      let ks = c.args.list.now in
-      let i = c.loop-k.k-index in
-      let r = c.index-rows-k.result in
-      let w : Within (get_or ks i 0) (length rows) = c.requires.1 _ (entry_member 0 ks i c.loop-k-test.true) in
-      let h : get_or ks i 0 - 1 < length rows = omega (arith, w) in
-      let e = map_at terms_of rows (get_or ks i 0 - 1) r [] h c.index-rows-k.is in
-      progress_denied S (state_of rows xs) ks i c.loop-k-test.true (terms_of r) e (vec_items c.loop-k.bytes) (told d) (c.loop-k.invariant.2 D n xs I) (c.in_err-copy_row.ensures.copy D n I (I (get_or ks i 0 - 1) r h c.index-rows-k.is).good);
-})
+      room = omega (arith, c.loop-k.invariant.1, c.copy_row.ensures.room);
+      copies = λ D n xs I.
+          let S = setting (g.F.Field.meaning c.args.ring.now.field) (g.O.Order.meaning c.args.ring.now.order) D n in
+          let rows = c.args.rows.now in
+          let ks = c.args.list.now in
+          let i = c.loop-k.k-index in
+          let r = c.index-rows-k.result in
+          let w : Within (get_or ks i 0) (length rows) = c.requires.1 _ (entry_member 0 ks i c.loop-k-test.true) in
+          let h : get_or ks i 0 - 1 < length rows = omega (arith, w) in
+          let e = map_at terms_of rows (get_or ks i 0 - 1) r [] h c.index-rows-k.is in
+          progress_denied S (state_of rows xs) ks i c.loop-k-test.true (terms_of r) e (vec_items c.loop-k.bytes) (told d) (c.loop-k.invariant.2 D n xs I) (c.in_err-copy_row.ensures.copy D n I (I (get_or ks i 0 - 1) r h c.index-rows-k.is).good);
+    })
 
 pub loop-k-preserved : goal.loop-k-preserved
 loop-k-preserved g c = (

@@ -1,4 +1,4 @@
-use Rattle.std.proofs.Common.{ℕ, suc, ◌+◌, ◌<◌, [], length, refl, ◌∙◌, subst, add-one, arith, rules}
+use Rattle.std.proofs.Common.{ℕ, suc, ◌<◌, [], length, refl, ◌∙◌, subst, add-one, arith, rules}
 use Rattle.monomial.specs.Lists.{exponents_of}
 use Rattle.reduction.specs.Table.{terms_of}
 use Rattle.sheet.specs.Rows.{lead_of, flags_of, Asked}

@@ -1,4 +1,4 @@
-use Rattle.std.proofs.Common.{◌≡◌, Less, map, length, get_or, sym, ap, ◌∙◌, arith, rules}
+use Rattle.std.proofs.Common.{◌≡◌, map, length, sym, ap, ◌∙◌, arith}
 use Rattle.std.specs.List.{insert}
 use Rattle.std.specs.Ordering.{is_lt}
 use Rattle.involutive.proofs.Lists.{entry_member}

@@ -1,4 +1,4 @@
-use Rattle.std.proofs.Common.{◌≡◌, Ok, Err, is_ok, vec_items, sym, ap, ◌∙◌, rules}
+use Rattle.std.proofs.Common.{◌≡◌, Err, is_ok, vec_items, sym, ap, ◌∙◌, rules}
 use borrow.Author.Tests.{tests}
 use Rattle.calls.specs.declared.refusal.Refusal.TheVariants.{Polynomial}
 use Rattle.reduction.proofs.Renaming.{renamed, unrefused}

@@ -1,4 +1,4 @@
-use Rattle.std.proofs.Common.{◌≡◌, ◌-◌, ◌<◌, true, [], length, get_or, set, ap, ◌∙◌, arith, rules}
+use Rattle.std.proofs.Common.{◌-◌, ◌<◌, length, set, ap, ◌∙◌, arith, rules}
 use Rattle.sheet.specs.Marks.{marked}
 use Rattle.sheet.proofs.Marking.{set_marked}
 use Rattle.sheet.proofs.marks.Marks.mark.Goals as goal

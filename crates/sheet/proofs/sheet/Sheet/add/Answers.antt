@@ -1,7 +1,6 @@
 use Rattle.std.proofs.Common.{◌≡◌, length, Ok, Err, vec_items, sym, refl, ap, ◌∙◌, subst, rules}
 use lib.ListN.{length-map}
 use Rattle.polynomial.specs.Check.{Acceptable}
-use Rattle.involutive.specs.Sheet.{Lawful}
 use Rattle.involutive.specs.Answers.{Adds, rows_now, add_faulty}
 use Rattle.calls.specs.declared.refusal.Refusal.TheVariants.{Polynomial}
 use Rattle.reduction.specs.Table.{setting, terms_of}

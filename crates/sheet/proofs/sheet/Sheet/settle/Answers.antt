@@ -1,11 +1,11 @@
-use Rattle.std.proofs.Common.{◌≡◌, ◌≤◌, List, length, eqb, Ok, Err, vec_items, vec_len, sym, refl, subst, arith, rules}
+use Rattle.std.proofs.Common.{◌≡◌, ◌≤◌, List, length, Err, vec_items, vec_len, sym, refl, subst, arith, rules}
 use Rattle.std.proofs.lemmas.Bool.{eqb-true, eqb-false}
 use Rattle.polynomial.specs.Check.{most_terms}
 use Rattle.involutive.specs.Reduction.{left}
 use Rattle.involutive.specs.Sheet.{Lawful}
 use Rattle.involutive.specs.Answers.{ReducesTo}
 use Rattle.reduction.specs.declared.table.Row.{Row}
-use Rattle.reduction.specs.Table.{setting, SoundTable}
+use Rattle.reduction.specs.Table.{setting}
 use Rattle.sheet.specs.Marks.{rows_of, state_of}
 use Rattle.sheet.specs.Settling.{Settles, stuck}
 use Rattle.sheet.proofs.Settlings.{at_rows, settle_nothing, settle_full, settle_appends, settle_stands}

@@ -1,4 +1,4 @@
-use Rattle.std.proofs.Common.{◌≡◌, Ok, Err, vec_items, sym, refl, ap, ◌∙◌, subst, rules}
+use Rattle.std.proofs.Common.{◌≡◌, Err, vec_items, sym, refl, ap, ◌∙◌, subst, rules}
 use borrow.Author.Tests.{tests}
 use Rattle.polynomial.specs.Check.{Acceptable}
 use Rattle.involutive.specs.Sheet.{Lawful}

@@ -1,6 +1,5 @@
 use Rattle.std.proofs.Common.{◌≡◌, ◌<◌, List, map, length, vec_items, vec_len, sym, refl, ap, ◌∙◌, subst, rules}
 use Rattle.std.proofs.lemmas.List.{take_at}
-use Rattle.std.proofs.lemmas.Bool.{lt-ltb}
 use Rattle.monomial.specs.Lists.{exponents_of}
 use Rattle.monomial.specs.Monomial.{one}
 use Rattle.polynomial.specs.Polynomial.{leading, leading_coefficient}
