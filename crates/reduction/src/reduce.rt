@@ -82,7 +82,7 @@ impl Work {
         let Work { rest, done, spare } = self;
         let most = room.min(MOST_TERMS);
         done.clear();
-        for turn in 0..MONOMIALS {
+        for _ in 0..MONOMIALS {
             let terms = rest.terms.as_slice();
             match find_reducible(table, terms) {
                 None => {

@@ -19,7 +19,8 @@ use polynomial::ring::Ring;
 use reduction::table::Lead;
 use std::cmp::Ordering;
 
-// A pair, and its row's leading monomial times its variable; both count from 1.
+// A pair, and its row's leading monomial times its variable; both count from 1. That they are in range stands in the
+// contracts and not in the type, so that the definitions can speak of any pair.
 #[derive(Clone, Copy)]
 pub(crate) struct Pick {
     pub(crate) row: usize,

@@ -83,6 +83,7 @@ fn copy_row<F: Field, O: Order>(
     ensures copy { (D : Split) (n : ℕ) → SoundTable (setting (F.Field.meaning ring.now.field) (O.Order.meaning ring.now.order) D n) rows.now → Good (setting (F.Field.meaning ring.now.field) (O.Order.meaning ring.now.order) D n) (terms_of row.now) → RowCopied (setting (F.Field.meaning ring.now.field) (O.Order.meaning ring.now.order) D n) (table_of rows.now) (terms_of row.now) result bytes.old.items bytes.new.items }
 {
     let (first, others) = row.terms.as_slice().split_at(1);
+    // A row has at most 40 terms, so there is room.
     let _ = work.load(others);
     reduce(ring, rows, MOST_TERMS - 1, work)?;
     push_terms(first, bytes);

@@ -14,7 +14,7 @@ pub(crate) struct Marks {
     pub(crate) rows: [[bool; WIDTH]; MOST_ROWS],
 }
 
-// One variable more, counted from 0.
+// One variable more, counted from 0. It stands apart because it tells how long a row is.
 fn with_mark(row: [bool; WIDTH], v: usize) -> [bool; WIDTH]
     requires { v < width }
     ensures changed { result ≡ slice_set row v true }

@@ -49,7 +49,7 @@ fn place_of<O: Order>(order: &O, rows: &[Row], list: &[usize], k: usize) -> usiz
     list.len()
 }
 
-// The numbers of the rows to copy.
+// The numbers of the rows to copy. The loop is over the numbers, since of a row nothing else is asked.
 pub(crate) fn select<O: Order>(order: &O, rows: &[Row], list: &mut Vec<usize>)
     requires { (length rows.now ≤ most_rows) × (most_rows ≤ vec_capacity list.old) }
     ensures room { most_rows ≤ vec_capacity list.new }

@@ -44,6 +44,7 @@ pub(crate) fn take<F: Field, O: Order>(
     ensures { MatchResult result (λ _. Acceptable (F.Field.meaning ring.now.field) (O.Order.meaning ring.now.order) ring.now.variables f.now × (fault (F.Field.meaning ring.now.field) (O.Order.meaning ring.now.order) ring.now.variables f.now ≡ None) × (work.new.rest.terms.items ≡ f.now)) (λ refusal. (unfit : Unfit) × (fault (F.Field.meaning ring.now.field) (O.Order.meaning ring.now.order) ring.now.variables f.now ≡ Some unfit) × (refusal ≡ Polynomial unfit)) }
 {
     ring.check(f).map_err(Refusal::Polynomial)?;
+    // It has at most 40 terms, so there is room.
     let _ = work.load(f);
     Ok(())
 }

@@ -29,7 +29,7 @@ impl Table {
         let rows = Vec::with_capacity(heap, MOST_ROWS)?;
         let leaders = Vec::with_capacity(heap, MOST_ROWS)?;
         let mut spare = Vec::with_capacity(heap, MOST_ROWS)?;
-        for i in 0..MOST_ROWS {
+        for _ in 0..MOST_ROWS {
             spare.push_reserved(Buffer::new(heap)?);
         }
         Ok(Table {
