@@ -9,7 +9,7 @@ ghost use Rattle.calls.specs.declared.refusal.Refusal.TheVariants.{Full};
 ghost use Rattle.reduction.specs.Table.{terms_of};
 ghost use Rattle.sheet.specs.Rows.{lead_of, Appended};
 
-use crate::flags::{list_leaders, refresh};
+use crate::flags::refresh;
 use crate::table::Table;
 use calls::refusal::Refusal;
 use field::Field;
@@ -66,7 +66,7 @@ impl Table {
             }
             Ok(row) => {
                 self.rows.push_reserved(row);
-                list_leaders(self.rows.as_slice(), &mut self.leaders);
+                self.list_leaders();
                 refresh(division, self.leaders.as_slice(), self.rows.as_mut_slice());
                 Ok(())
             }

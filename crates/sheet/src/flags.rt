@@ -1,24 +1,26 @@
 // Which variables are multiplicative for each row. It changes only when a row is appended, so the division is asked then.
-ghost use Rattle.std.specs.Prelude.{◌≡◌, ℕ, ◌≤◌, List, map, length, vec_capacity};
+ghost use Rattle.std.specs.Prelude.{◌≡◌, ℕ, List, map};
 ghost use Rattle.monomial.specs.Lists.{exponents_of};
-ghost use Rattle.involutive.specs.Sheet.{most_rows};
 ghost use Rattle.reduction.specs.Table.{terms_of};
 ghost use Rattle.sheet.specs.Rows.{lead_of, flags_of, Asked, Refreshed};
 
+use crate::table::Table;
 use monomial::division::Division;
 use monomial::{Monomial, WIDTH};
 use reduction::table::Row;
 use std::array::from_fn;
 
-// The leading monomials, in a list of their own.
-pub(crate) fn list_leaders(rows: &[Row], leaders: &mut Vec<Monomial>)
-    requires { (length rows.now ≤ most_rows) × (most_rows ≤ vec_capacity leaders.old) }
-    ensures list { exponents_of leaders.new.items ≡ map lead_of rows.now }
-    ensures room { vec_capacity leaders.new ≡ vec_capacity leaders.old }
-{
-    leaders.clear();
-    for row in rows {
-        leaders.push_reserved(row.lead.monomial);
+impl Table {
+    // Puts the rows' leading monomials into the list that a division is asked about.
+    pub(crate) fn list_leaders(&mut self)
+        ensures list { exponents_of self.new.leaders.items ≡ map lead_of self.old.rows.items }
+        ensures kept { self.new.rows ≡ self.old.rows }
+    {
+        let Table { rows, leaders, .. } = self;
+        leaders.clear();
+        for row in rows.as_slice() {
+            leaders.push_reserved(row.lead.monomial);
+        }
     }
 }
 

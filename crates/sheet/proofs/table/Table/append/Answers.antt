@@ -22,10 +22,10 @@ returns-in-Ok g c = record {
       let old = vec_items c.args.self.now.rows in
       let pushed = vec_items c.push_reserved-in-Ok.new.self in
       let new = c.refresh.new.rows in
-      let U = exponents_of c.as_slice-in-Ok.result.now in
-      let u : U ≡ map lead_of pushed = ap exponents_of c.as_slice-in-Ok.ensures.value ∙ c.list_leaders.ensures.list ∙ ap (map lead_of) c.as_slice.ensures.value in
-      let R : Refreshed D U pushed new = subst (λ (x : List Row). Refreshed D U x new) c.as_mut_slice.ensures.value c.refresh.ensures in
-      let l : length new ≡ c.push_reserved-in-Ok.new.self.len = search rules in
+      let U = exponents_of c.as_slice.result.now in
+      let u : U ≡ map lead_of pushed = ap exponents_of c.as_slice.ensures.value ∙ c.list_leaders.ensures.list in
+      let R : Refreshed D U pushed new = subst (λ (x : List Row). Refreshed D U x new) (c.as_mut_slice.ensures.value ∙ ap vec_items c.list_leaders.ensures.kept) c.refresh.ensures in
+      let l : length new ≡ c.list_leaders.new.self.rows.len = search rules in
       let k : vec_len c.args.self.now.rows < 32 = search rules in
-      (k, subst (λ (x : List Row). Appended D (scaled F (F.inv (leading_coefficient h)) one h) (leading h) old x) (sym (take_at new _ c.push_reserved-in-Ok.new.self.len l)) (appended old pushed new c.in-Ok.row c.push_reserved-in-Ok.ensures.items (c.in-Ok.ensures.terms n o p) c.in-Ok.ensures.lead u R));
+      (k, subst (λ (x : List Row). Appended D (scaled F (F.inv (leading_coefficient h)) one h) (leading h) old x) (sym (take_at new _ c.list_leaders.new.self.rows.len l)) (appended old pushed new c.in-Ok.row c.push_reserved-in-Ok.ensures.items (c.in-Ok.ensures.terms n o p) c.in-Ok.ensures.lead u R));
 }
