@@ -2,12 +2,12 @@ mod Terms
 mod Codes
 mod Adding
 mod Meeting
-mod Writing
 mod AddingUp
 mod Multiples
 mod Subtracting
 mod Counting
 mod Divisors
 mod Acting
+pub mod Renaming
 mod Standing
 mod Turning

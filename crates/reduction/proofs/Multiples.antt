@@ -1,9 +1,10 @@
 -- The terms of −c x^a f, one by one: where no exponent is above 40 they are those of the negated multiple, and that is written.
-use Rattle.std.proofs.Common.{◌≡◌, ℕ, zero, suc, ◌+◌, ◌-◌, ◌<◌, ◌≤◌, min, Bool, true, false, cond, ltb, leb, List, [], ◌∷◌, ◌++◌, map, length, get_or, take, sym, refl, ap, ◌∙◌, subst, ⊎_elim, arith, length-take}
+use Rattle.std.proofs.Common.{◌≡◌, ℕ, zero, suc, ◌+◌, ◌-◌, ◌<◌, ◌≤◌, min, Bool, true, false, leb, List, [], ◌∷◌, ◌++◌, map, length, get_or, take, Ok, Err, Result, MatchResult, sym, refl, ap, ◌∙◌, subst, ⊎_elim, arith, length-take}
 use mathlib.Core.List.{map-append, Memᴰ}
 use lib.ListN.{length-map}
 use Rattle.std.proofs.lemmas.List.{take_more}
-use Rattle.std.proofs.lemmas.Bool.{and_parts, and_cases, leb-true, leb-false, lt-ltb, both_ways, cond-true}
+use Rattle.std.proofs.lemmas.Bool.{and_parts, and_cases, leb-true, leb-false, le-leb, lt-leb, cases_Bool, both_ways}
+use Rattle.std.specs.List.{zip, list_all}
 use Rattle.field.specs.Field.{FieldMeaning, FieldLaws}
 use Rattle.monomial.specs.Monomial.{Wide, width, In, times, Bounded}
 use Rattle.monomial.specs.Places.{low, agree_all}
@@ -40,6 +41,15 @@ small_yes [] m e i = omega arith
 small_yes (d ∷ u) [] e i = omega arith
 small_yes (d ∷ u) (x ∷ m) e zero = leb-true (d + x) 40 (and_parts (leb (d + x) 40) (small_product u m) e).0
 small_yes (d ∷ u) (x ∷ m) e (suc i) = small_yes u m (and_parts (leb (d + x) 40) (small_product u m) e).1 i
+
+capped_small : (x : ℕ) → leb (min x 255) 40 ≡ leb x 40
+capped_small x =
+    ⊎_elim (λ e. e ∙ sym (le-leb x 40 (let k = leb-true (min x 255) 40 e in omega arith))) (λ e. e ∙ sym (lt-leb x 40 (let k = leb-false (min x 255) 40 e in omega arith))) (cases_Bool (leb (min x 255) 40))
+
+pub zip_small : (u m : List ℕ) → list_all (λ p. leb (min (p.0 + p.1) 255) 40) (zip u m) ≡ small_product u m
+zip_small [] m = refl
+zip_small (d ∷ u) [] = refl
+zip_small (d ∷ u) (x ∷ m) = cc (capped_small (d + x), zip_small u m)
 
 small_no : (u m : List ℕ) → small_product u m ≡ false → ((i : ℕ) → get_or (times u m) i 0 ≤ 40) → ⊥
 small_no [] m e h = both_ways true e refl
@@ -85,11 +95,11 @@ module _ (F : FieldMeaning) (L : FieldLaws F) (n : ℕ) where
   pub negative_images : (c : ℕ) (a : List ℕ) (f : Poly) → c < F.q → Over F n f → all_small a f ≡ true → map (image F (F.neg c) a) f ≡ negated F (scaled F c a f)
   negative_images c a f p o e = images (F.neg c) a f (L.neg_below c p) o e ∙ scaled_negative c a f p o
 
--- one term more
-pub one_more : (I : Term → Term) (f : Poly) (k : ℕ) (x : Term) (out out' : Poly) (b : Bool) → k < length f → length f ≤ 40 → out ≡ map I (take k f) → x ≡ I (get_or f k (term 0 [])) → b ≡ ltb (length out) 40 → out' ≡ cond b (out ++ x ∷ []) out → out' ≡ map I (take (k + 1) f)
-one_more I f k x out out' b h l e is t d =
-    let s : length out < 40 = omega (arith, ap length e, length-map (take k f) I, length-take k f) in
-    d ∙ cond-true b (out ++ x ∷ []) out (t ∙ lt-ltb (length out) 40 s) ∙ (λ i. e i ++ is i ∷ []) ∙ sym (map-append I (take k f) (get_or f k (term 0 []) ∷ [])) ∙ ap (map I) (sym (take_more f k (term 0 []) h))
+-- one term more, for which there is room
+pub one_more : {E : Type 0} (I : Term → Term) (f : Poly) (k : ℕ) (x : Term) (out out' : Poly) (res : Result (Unit {0}) E) → k < length f → length f ≤ 40 → out ≡ map I (take k f) → x ≡ I (get_or f k (term 0 [])) → MatchResult res (λ _. (length out < 40) × (out' ≡ out ++ x ∷ [])) (λ _. (40 ≤ length out) × (out' ≡ out)) → out' ≡ map I (take (k + 1) f)
+one_more I f k x out out' (Err u) h l e is d = absurd (let z = d.0 in omega (arith, ap length e, length-map (take k f) I, length-take k f))
+one_more I f k x out out' (Ok u) h l e is d =
+    d.1 ∙ (λ i. e i ++ is i ∷ []) ∙ sym (map-append I (take k f) (get_or f k (term 0 []) ∷ [])) ∙ ap (map I) (sym (take_more f k (term 0 []) h))
 
 -- the negative of what is written is written
 module _ (ground : Ground) where

@@ -1,5 +1,5 @@
 -- From a sound table and what the search finds to the turns of reducing.
-use Rattle.std.proofs.Common.{◌≡◌, ℕ, zero, suc, ◌+◌, ◌-◌, ◌<◌, ◌≤◌, min, Bool, cond, leb, List, [], ◌∷◌, ◌++◌, length, get_or, take, drop, Some, None, Ok, Err, Result, sym, refl, ap, ◌∙◌, subst, append-nil, add-one, arith, length-append, take-append-drop, length-take}
+use Rattle.std.proofs.Common.{◌≡◌, ℕ, zero, suc, ◌+◌, ◌-◌, ◌<◌, ◌≤◌, min, List, [], ◌∷◌, ◌++◌, length, get_or, take, drop, Some, None, Ok, Err, Result, sym, refl, ap, ◌∙◌, subst, append-nil, add-one, arith, length-append, take-append-drop, length-take}
 use mathlib.Core.List.Memᴰ
 use mathlib.Core.List.{Memᴰ}
 use lib.ListN.{length-map}
@@ -15,6 +15,7 @@ use Rattle.involutive.specs.Value.{scaled}
 use Rattle.involutive.specs.Reduction.{Table, row, leaders, Reduces, left, refused, refuse}
 use Rattle.involutive.proofs.Typing.{Ground}
 use Rattle.involutive.proofs.Lists.{entry_member, member_entry}
+use Rattle.reduction.specs.declared.buffer.NoRoom.{NoRoom}
 use Rattle.reduction.specs.declared.refusal.Reason.{Reason}
 use Rattle.reduction.specs.declared.refusal.Reason.TheVariants.{Wide as TooWide, Long}
 use Rattle.reduction.specs.declared.table.Row.{Row}
@@ -24,7 +25,7 @@ use Rattle.reduction.specs.Subtraction.{Subtracted, Differs}
 use Rattle.reduction.specs.Reducing.{number}
 use Rattle.reduction.proofs.Acting
 use Rattle.reduction.proofs.Acting.{Clean, Action}
-use Rattle.reduction.proofs.AddingUp.{extend_all}
+use Rattle.reduction.proofs.AddingUp.{Extended, extend_all}
 use Rattle.reduction.proofs.Divisors.{involutive_yes, involutive_no}
 use Rattle.reduction.proofs.Standing
 use Rattle.reduction.proofs.Standing.{Stands, moved, ended}
@@ -116,12 +117,12 @@ module _ (G : Ground) (D : Split) (rows : List Row) (sound : SoundTable (setting
 
   -- A turn at term i and row k. The room that is left is what the code computes: it takes the least of `room` and 40, and
   -- hands on what the terms that are done leave of it.
-  module _ (h fine rest : Poly) (turn : ℕ) (st : At h fine rest turn) (i k : ℕ) (found : Finds rows rest (Some (i, k))) (r : Row) (is_r : r ≡ get_or rows k r) (most : ℕ) (enough : room ≤ most) (b : Bool) (fine' : Poly) (test : b ≡ leb (length fine + length (take i rest)) most) (result : fine' ≡ cond b (fine ++ take i rest) fine) where
+  module _ (h fine rest : Poly) (turn : ℕ) (st : At h fine rest turn) (i k : ℕ) (found : Finds rows rest (Some (i, k))) (r : Row) (is_r : r ≡ get_or rows k r) (most : ℕ) (enough : room ≤ most) (res : Result (Unit {0}) NoRoom) (fine' : Poly) (extended : Extended fine (take i rest) most res fine') where
     abbrev t : Term
     t = get_or rest i (term 0 [])
 
     front : fine' ≡ fine ++ take i rest
-    front = extend_all fine (take i rest) fine' most b (front_fits st (take i rest) (omega (arith, length-take i rest)) most enough) test result
+    front = extend_all fine (take i rest) most res fine' (front_fits st (take i rest) (omega (arith, length-take i rest)) most enough) extended
 
     abbrev at_row : SoundRow (setting F O D n) T k r
     at_row = sound k r found.2.inside is_r
@@ -190,9 +191,9 @@ module _ (G : Ground) (D : Split) (rows : List Row) (sound : SoundTable (setting
       exact : length fine' + free ≡ room
       exact = let w = here.short in omega (arith, length-append fine' (t ∷ drop (i + 1) rest))
 
-      pub act : (u : Unit {0}) (g new : Poly) → new ≡ g → Cancels free behind (Ok u) g → At h fine' new (turn + 1)
-      act u g new e s =
-          let x = subtracted free behind (Ok u) g is_behind s in
+      pub act : (res : Result (Unit {0}) Reason) (g new : Poly) → res ≡ Ok tt → new ≡ g → Cancels free behind res g → At h fine' new (turn + 1)
+      act res g new y e s =
+          let x = subtracted free behind (Ok tt) g is_behind (subst (λ r. Cancels free behind r g) y s) in
           let q = x.2 in
           subst (λ y. At h fine' y (turn + 1)) (sym e) (subst (At h fine' g) (sym (add-one turn))
           (Standing.acted G D T room here action g (subst Fits m_is x.0) (subst (λ m. Differs F O n (drop (i + 1) rest) m g) m_is x.1) (omega (arith, length-append fine' g, exact))))
@@ -202,5 +203,7 @@ module _ (G : Ground) (D : Split) (rows : List Row) (sound : SoundTable (setting
       stopped Long g (e, (f, d, q)) =
           Standing.too_long G D T room here action f (subst Fits m_is e) (subst (λ m. Differs F O n (drop (i + 1) rest) m f) m_is d) (omega (arith, length-append fine' f, exact))
 
-      pub stop : (why : Reason) (g : Poly) → Cancels free behind (Err why) g → Reduces F O D n T room h (refused (refuse (number why) (k + 1)))
-      stop why g s = subst (λ j. Reduces F O D n T room h (refused (refuse (number why) j))) (sym (add-one k)) (stopped why g (subtracted free behind (Err why) g is_behind s))
+      pub stop : (res : Result (Unit {0}) Reason) (why : Reason) (g : Poly) → res ≡ Err why → Cancels free behind res g → Reduces F O D n T room h (refused (refuse (number why) (k + 1)))
+      stop res why g y s =
+          subst (λ j. Reduces F O D n T room h (refused (refuse (number why) j))) (sym (add-one k))
+          (stopped why g (subtracted free behind (Err why) g is_behind (subst (λ r. Cancels free behind r g) y s)))

@@ -1,7 +1,8 @@
 -- What the code of a subtraction computes on every value, sound or not, one term after another.
 -- Only contracts of private functions use these words; no public contract does.
-use Rattle.std.specs.Prelude.{◌≡◌, ℕ, ◌+◌, ◌<◌, min, Bool, true, false, cond, ◌&&◌, List, [], ◌∷◌, nat_le}
+use Rattle.std.specs.Prelude.{◌≡◌, ℕ, ◌+◌, ◌<◌, ◌≤◌, min, Bool, true, ◌&&◌, List, [], ◌∷◌, length, Ok, Err, Result, nat_le, slice_index_or}
 use Rattle.std.specs.declared.cmp.Ordering.TheVariants.{Less, Equal, Greater}
+use Rattle.std.specs.List.{list_all}
 use Rattle.std.specs.Option.{unwrap_or}
 use Rattle.field.specs.Field.{FieldMeaning, code, codes, checked}
 use Rattle.monomial.specs.Order.{Compare}
@@ -37,13 +38,16 @@ small_product (d ∷ u) (e ∷ m) = nat_le (d + e) largest_exponent && small_pro
 
 -- nor of the multiple
 abbrev pub all_small : List ℕ → Poly → Bool
-all_small a [] = true
-all_small a (t ∷ f) = small_product a (exponents t) && all_small a f
+all_small a f = list_all (λ t. small_product a (exponents t)) f
 
--- how the first term of h stands to s: at its monomial where b is true, and else below it or absent
-abbrev pub Meets : Compare → Term → Poly → Bool → Type 0
-Meets O s [] b = b ≡ false
-Meets O s (t ∷ h) b = O (exponents t) (exponents s) ≡ cond b Equal Less
+-- the first k terms of h stand above s
+abbrev pub Above : Compare → Term → Poly → ℕ → Type 0
+Above O s h k = (i : ℕ) (d : Term) → i < k → O (exponents (slice_index_or h i d)) (exponents s) ≡ Greater
+
+-- the terms of h before a place stand above s, and the one there has its monomial, or else stands below it if there is one
+abbrev pub Placed : Compare → Term → Poly → Result ℕ ℕ → Type 0
+Placed O s h (Ok k) = (k < length h) × Above O s h k × ((d : Term) → O (exponents (slice_index_or h k d)) (exponents s) ≡ Equal)
+Placed O s h (Err k) = (k ≤ length h) × Above O s h k × (k < length h → (d : Term) → O (exponents (slice_index_or h k d)) (exponents s) ≡ Less)
 
 -- `Sums F O h f g`: adding up h and f from their greatest terms on gives g
 module _ (F : FieldMeaning) (O : Compare) where

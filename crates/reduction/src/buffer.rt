@@ -1,5 +1,5 @@
 // Room for the terms of a polynomial. It is taken once, so that nothing is allocated while polynomials are reduced.
-ghost use Rattle.std.specs.Prelude.{◌≡◌, ℕ, ◌+◌, ◌<◌, ◌≤◌, min, Bool, List, [], ◌∷◌, ◌++◌, length, IfOk, if◌then◌else◌, vec_len, vec_capacity, nat_le, nat_lt};
+ghost use Rattle.std.specs.Prelude.{◌≡◌, ℕ, ◌+◌, ◌<◌, ◌≤◌, List, [], ◌∷◌, ◌++◌, length, IfOk, vec_len, vec_capacity, MatchResult};
 ghost use Rattle.polynomial.specs.Check.{most_terms};
 
 use polynomial::check::MOST_TERMS;
@@ -13,6 +13,10 @@ pub struct Buffer {
     ghost room: { 40 ≤ vec_capacity terms },
     ghost few: { vec_len terms ≤ 40 },
 }
+
+// There is no room for the terms, and nothing changed.
+#[derive(Clone, Copy, PartialEq, Eq, Debug)]
+pub struct NoRoom;
 
 impl Buffer {
     // An empty buffer, or want of memory.
@@ -31,49 +35,41 @@ impl Buffer {
     }
 
     // These terms in place of the old ones, where they are at most 40; else nothing changes.
-    pub fn load(&mut self, terms: &[Term]) -> bool
-        ensures { (result ≡ nat_le (length terms.now) most_terms) × (self.new.terms.items ≡ (if result then terms.now else self.old.terms.items)) }
+    pub fn load(&mut self, terms: &[Term]) -> Result<(), NoRoom>
+        ensures { MatchResult result (λ _. (length terms.now ≤ most_terms) × (self.new.terms.items ≡ terms.now)) (λ _. (most_terms < length terms.now) × (self.new.terms.items ≡ self.old.terms.items)) }
     {
         if terms.len() > MOST_TERMS {
-            return false;
+            return Err(NoRoom);
         }
         self.clear();
         let _ = self.terms.extend_from_slice(terms);
-        true
+        Ok(())
     }
 
     // One term more, where fewer than `most` are there; else nothing changes.
-    pub(crate) fn push(&mut self, term: Term, most: usize) -> bool
+    pub(crate) fn push(&mut self, term: Term, most: usize) -> Result<(), NoRoom>
         requires { most ≤ most_terms }
-        ensures { (result ≡ nat_lt (length self.old.terms.items) most) × (self.new.terms.items ≡ (if result then self.old.terms.items ++ term ∷ [] else self.old.terms.items)) }
+        ensures { MatchResult result (λ _. (length self.old.terms.items < most) × (self.new.terms.items ≡ self.old.terms.items ++ term ∷ [])) (λ _. (most ≤ length self.old.terms.items) × (self.new.terms.items ≡ self.old.terms.items)) }
     {
-        if self.terms.len() < most {
-            self.terms.push_reserved(term);
-            true
-        } else {
-            false
+        if self.terms.len() >= most {
+            return Err(NoRoom);
         }
+        self.terms.push_reserved(term);
+        Ok(())
     }
 
     // All these terms more, where then at most `most` are there; else nothing changes.
-    pub(crate) fn extend(&mut self, more: &[Term], most: usize) -> bool
+    pub(crate) fn extend(&mut self, more: &[Term], most: usize) -> Result<(), NoRoom>
         requires { most ≤ most_terms }
-        ensures { (result ≡ nat_le (length self.old.terms.items + length more.now) most) × (self.new.terms.items ≡ (if result then self.old.terms.items ++ more.now else self.old.terms.items)) }
+        ensures { MatchResult result (λ _. (length self.old.terms.items + length more.now ≤ most) × (self.new.terms.items ≡ self.old.terms.items ++ more.now)) (λ _. (most < length self.old.terms.items + length more.now) × (self.new.terms.items ≡ self.old.terms.items)) }
     {
         if more.len() > most {
-            return false;
+            return Err(NoRoom);
         }
         if self.terms.len() > most - more.len() {
-            return false;
+            return Err(NoRoom);
         }
         let _ = self.terms.extend_from_slice(more);
-        true
+        Ok(())
     }
-}
-
-// The room that there is of the room that is asked for.
-pub(crate) fn cap(room: usize) -> usize
-    ensures { result ≡ min room most_terms }
-{
-    if room < MOST_TERMS { room } else { MOST_TERMS }
 }

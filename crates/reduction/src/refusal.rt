@@ -1,12 +1,15 @@
 // Why reducing is refused.
 ghost use Rattle.std.specs.Prelude.{◌≡◌};
 ghost use Rattle.reduction.specs.Reducing.{number as number_of};
+ghost use Rattle.reduction.specs.declared.refusal.Reason.TheVariants.{Long as TooLong};
+
+use crate::buffer::NoRoom;
 
 #[derive(Clone, Copy, PartialEq, Eq, Debug)]
 pub enum Reason {
     // An exponent of the multiple is above 40.
     Wide,
-    // The difference has more terms than there is room for.
+    // The polynomial has more terms than there is room for.
     Long,
 }
 
@@ -19,6 +22,14 @@ impl Reason {
             Reason::Wide => 9,
             Reason::Long => 10,
         }
+    }
+}
+
+impl From<NoRoom> for Reason {
+    ghost from_gives = { λ _ reason. reason ≡ TooLong };
+
+    fn from(_: NoRoom) -> Reason {
+        Reason::Long
     }
 }
 

@@ -6,7 +6,8 @@ use monomial::WIDTH;
 use polynomial::term::Term;
 
 // The first of these terms that has an involutive divisor in the table, and the first row that is one; both are
-// counted from 0. In falling order the first such term is the greatest.
+// counted from 0. In falling order the first such term is the greatest. A place of the monomials is at once one of the
+// list of variables, so the innermost loop counts places.
 pub fn find_reducible(table: &[Row], terms: &[Term]) -> Option<(usize, usize)>
     ensures { Finds table.now terms.now result }
 {

@@ -1,52 +1,50 @@
 // Subtracting a multiple of a row: one text for every field and order.
 ghost use Rattle.std.specs.Prelude.{◌≡◌, ℕ, ◌<◌, min};
 ghost use Rattle.monomial.specs.Monomial.{In, quotient as divided};
-ghost use Rattle.polynomial.specs.Polynomial.{Written};
+ghost use Rattle.polynomial.specs.Polynomial.{Written, exponents as exponents_of};
 ghost use Rattle.polynomial.specs.Check.{most_terms};
 ghost use Rattle.involutive.specs.Value.{scaled};
 ghost use Rattle.reduction.specs.Subtraction.{Subtracted};
 
-use crate::buffer::{Buffer, cap};
+use crate::buffer::Buffer;
 use crate::merge::{add_multiple, fits};
 use crate::refusal::Reason;
 use field::Field;
+use monomial::Monomial;
 use monomial::order::Order;
-use monomial::{Monomial, WIDTH};
+use polynomial::check::MOST_TERMS;
+use polynomial::ring::Ring;
 use polynomial::term::Term;
+use std::array::from_fn;
 
 // m / u, with 0 for each exponent of m that is below u's.
 pub(crate) fn quotient(m: &Monomial, u: &Monomial) -> Monomial
     ensures { result.exponents ≡ divided m.now.exponents u.now.exponents }
 {
-    let mut exponents = [0; WIDTH];
-    for i in 0..WIDTH {
-        exponents[i] = m.exponents[i].saturating_sub(u.exponents[i]);
+    Monomial {
+        exponents: from_fn(|i| m.exponents[i].saturating_sub(u.exponents[i])),
     }
-    Monomial { exponents }
 }
 
-// The terms less c x^a row into the buffer, where x^a is the shift, unless an exponent of the multiple is above 40, or
-// else the difference has more than `room` terms. There is never room for more than 40.
+// The terms less the factor times a row into the buffer, unless an exponent of the multiple is above 40, or else the
+// difference has more than `room` terms. There is never room for more than 40.
 pub fn subtract<F: Field, O: Order>(
-    field: &F,
-    order: &O,
+    ring: &Ring<F, O>,
     terms: &[Term],
     row: &[Term],
-    coefficient: u16,
-    shift: &Monomial,
+    factor: &Term,
     room: usize,
     out: &mut Buffer,
 ) -> Result<(), Reason>
-    ensures { (n : ℕ) → Written (F.Field.meaning field.now) (O.Order.meaning order.now) n terms.now → Written (F.Field.meaning field.now) (O.Order.meaning order.now) n row.now → 0 < coefficient → coefficient < (F.Field.meaning field.now).q → In n shift.now.exponents → Subtracted (F.Field.meaning field.now) (O.Order.meaning order.now) n (min room most_terms) terms.now (scaled (F.Field.meaning field.now) coefficient shift.now.exponents row.now) result out.new.terms.items }
+    ensures { (n : ℕ) → Written (F.Field.meaning ring.now.field) (O.Order.meaning ring.now.order) n terms.now → Written (F.Field.meaning ring.now.field) (O.Order.meaning ring.now.order) n row.now → 0 < factor.now.coefficient → factor.now.coefficient < (F.Field.meaning ring.now.field).q → In n (exponents_of factor.now) → Subtracted (F.Field.meaning ring.now.field) (O.Order.meaning ring.now.order) n (min room most_terms) terms.now (scaled (F.Field.meaning ring.now.field) factor.now.coefficient (exponents_of factor.now) row.now) result out.new.terms.items }
 {
-    if !fits(shift, row) {
+    if !fits(&factor.monomial, row) {
         return Err(Reason::Wide);
     }
-    let most = cap(room);
-    let negative = field.neg(coefficient).unwrap_or(0);
-    if add_multiple(field, order, terms, row, negative, shift, most, out) {
-        Ok(())
-    } else {
-        Err(Reason::Long)
-    }
+    let negative = Term {
+        coefficient: ring.field.neg(factor.coefficient).unwrap_or(0),
+        monomial: factor.monomial,
+    };
+    add_multiple(ring, terms, row, &negative, room.min(MOST_TERMS), out)?;
+    Ok(())
 }

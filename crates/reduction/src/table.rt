@@ -11,7 +11,8 @@ pub struct Lead {
     pub multiplicative: [bool; WIDTH],
 }
 
-// A polynomial of 1 to 40 terms.
+// A polynomial of 1 to 40 terms. Its leading monomial stands a second time in `lead`, where the search reads it without
+// going to the terms.
 #[derive(Drop)]
 pub struct Row {
     pub terms: Vec<Term>,

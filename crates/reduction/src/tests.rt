@@ -1,11 +1,12 @@
 use crate::buffer::Buffer;
-use crate::reduce::reduce_within;
+use crate::reduce::Work;
 use crate::refusal::{Denied, Reason};
 use crate::search::find_reducible;
 use crate::table::{Lead, Row};
 use field::four::Four;
 use monomial::Monomial;
 use monomial::lexicographic::Lexicographic;
+use polynomial::ring::Ring;
 use polynomial::term::Term;
 use std::alloc::{AllocError, Global};
 use std::test::Fail;
@@ -49,27 +50,20 @@ fn table(heap: Global, b: u8) -> Result<Vec<Row>, AllocError> {
 // What reducing a term by that table answers, and what is left of it.
 fn reduce(heap: Global, b: u8, term: Term) -> Result<(Result<(), Denied>, Buffer), AllocError> {
     let rows = table(heap, b)?;
-    let mut rest = Buffer::new(heap)?;
-    let mut done = Buffer::new(heap)?;
-    let mut spare = Buffer::new(heap)?;
-    let _ = rest.load(&[term]);
-    let answer = reduce_within(
-        &Four,
-        &Lexicographic,
-        rows.as_slice(),
-        40,
-        &mut rest,
-        &mut done,
-        &mut spare,
-    );
-    Ok((answer, done))
+    let mut work = Work::new(heap)?;
+    let _ = work.load(&[term]);
+    let ring = Ring {
+        field: Four,
+        order: Lexicographic,
+        variables: 2,
+    };
+    let answer = work.reduce_within(&ring, rows.as_slice(), 40);
+    Ok((answer, work.done))
 }
 
 // Whether these are the terms of the polynomial with this one term.
 fn is_single(terms: &[Term], term: Term) -> bool {
-    terms.len() == 1
-        && terms[0].coefficient == term.coefficient
-        && terms[0].monomial.is_same(&term.monomial)
+    terms == [term].as_slice()
 }
 
 #[test]

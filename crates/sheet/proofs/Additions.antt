@@ -1,6 +1,5 @@
 -- What add answers, from what became of the generator.
-use Rattle.std.proofs.Common.{◌≡◌, ℕ, ◌≤◌, Bool, cond, leb, [], ◌∷◌, length, Some, None, Ok, Err, Option, refl, ap, ◌∙◌, subst, arith, length-append}
-use Rattle.std.proofs.lemmas.Bool.{cond-true, le-leb}
+use Rattle.std.proofs.Common.{◌≡◌, ℕ, ◌<◌, ◌≤◌, [], ◌∷◌, length, Some, None, Ok, Err, Option, Result, MatchResult, refl, ap, subst, arith, length-append}
 use Rattle.monomial.specs.Monomial.{one}
 use Rattle.polynomial.specs.declared.refusal.Refusal.{Refusal as Unfit}
 use Rattle.polynomial.specs.Polynomial.{Poly}
@@ -21,8 +20,9 @@ pub fault_none : (o : Option Unfit) (u : Unit {0}) → Ok u ≡ outcome o → o 
 fault_none None u e = refl
 fault_none (Some r) u e = let z : ◌≡◌ {A = ℕ} 0 1 = cc in absurd (omega arith)
 
-pub loaded : (f old new : Poly) (r : Bool) → length f ≤ most_terms → (r ≡ leb (length f) most_terms) × (new ≡ cond r f old) → new ≡ f
-loaded f old new r l e = e.1 ∙ cond-true r f old (e.0 ∙ le-leb (length f) most_terms l)
+pub loaded : {E : Type 0} (f old new : Poly) (r : Result (Unit {0}) E) → length f ≤ most_terms → MatchResult r (λ _. (length f ≤ most_terms) × (new ≡ f)) (λ _. (most_terms < length f) × (new ≡ old)) → new ≡ f
+loaded f old new (Ok u) l e = e.1
+loaded f old new (Err x) l e = absurd (let k = e.0 in omega arith)
 
 pub adds_settled : {S : Setting} {s s' : State} {f : Poly} {x : Settled} → first_fault S f ≡ None → Settles S s f (Ok x) s' → Adds S s f (rows_now (length s'.rows)) s'
 adds_settled e (nothing R) = add_zero e R

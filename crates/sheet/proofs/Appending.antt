@@ -1,13 +1,18 @@
 -- A polynomial divided by its leading coefficient, as one row more.
-use Rattle.std.proofs.Common.{◌≡◌, ℕ, suc, ◌<◌, false, ltb, List, [], ◌∷◌, ◌++◌, map, length, get_or, unwrap_or, sym, refl, ap, ◌∙◌, subst, arith}
+use Rattle.std.proofs.Common.{◌≡◌, ℕ, suc, ◌<◌, ◌≤◌, Ok, Err, Result, MatchResult, true, false, ltb, List, [], ◌∷◌, ◌++◌, map, length, get_or, unwrap_or, sym, refl, ap, ◌∙◌, subst, arith}
 use mathlib.Core.List.Memᴰ
 use mathlib.Core.List.{map-append}
 use lib.ListN.{length-map}
-use Rattle.std.proofs.lemmas.Bool.{lt-ltb, cond-true}
+use Rattle.std.specs.Result.{is_err}
+use Rattle.std.proofs.lemmas.Bool.{lt-ltb, cond-true, false≢true}
 use Rattle.field.specs.Field.{FieldMeaning, FieldLaws, checked, code, nonzero_code}
 use Rattle.monomial.specs.Division.{Split}
 use Rattle.polynomial.specs.Polynomial.{Poly, Over, exponents, term, leading, leading_coefficient}
+use Rattle.polynomial.specs.Check.{Fits, most_terms}
+use Rattle.reduction.specs.declared.refusal.Reason.{Reason}
+use Rattle.reduction.specs.declared.refusal.Reason.TheVariants.{Wide, Long}
 use Rattle.reduction.specs.declared.table.Row.{Row}
+use Rattle.reduction.specs.Subtraction.{Unscaled}
 use Rattle.reduction.specs.Table.{terms_of, table_of}
 use Rattle.sheet.specs.Rows.{lead_of, flags_of, Asked, Refreshed, Appended}
 
@@ -31,3 +36,14 @@ appended {D} old pushed new r e t l u R = record {
   leads = R.leads ∙ ap (map lead_of) e ∙ map-append lead_of old (r ∷ []) ∙ ap (λ x. map lead_of old ++ (x ∷ [])) l;
   asked = λ i h. subst (λ V. Asked D V (suc i) (get_or (map flags_of new) i [])) (u ∙ sym R.leads) (R.asked i (subst (λ n. i < n) (sym (length-map new lead_of) ∙ ap length R.leads ∙ length-map pushed lead_of) h));
 }
+
+-- what could not be multiplied has an exponent that is too large, since its terms are few; and what could be is the multiple
+module _ (A : Type 0) (g m : Poly) where
+  pub too_large : (r : Result (Unit {0}) Reason) → is_err r ≡ true → length g ≤ most_terms → MatchResult r (λ _. A) (Unscaled g m) → Fits m → ⊥
+  too_large (Ok u) e l s f = absurd (false≢true e)
+  too_large (Err Long) e l s f = omega (arith, s, l)
+  too_large (Err Wide) e l s f = s f
+
+  pub multiplied : (r : Result (Unit {0}) Reason) → is_err r ≡ false → MatchResult r (λ _. A) (Unscaled g m) → A
+  multiplied (Ok u) e s = s
+  multiplied (Err d) e s = absurd (false≢true (sym e))

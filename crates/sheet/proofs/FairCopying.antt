@@ -1,5 +1,5 @@
 -- The bytes of the copies, row by row.
-use Rattle.std.proofs.Common.{◌≡◌, ℕ, ◌+◌, ◌-◌, ◌<◌, ◌≤◌, Bool, true, cond, leb, List, [], ◌∷◌, ◌++◌, length, get_or, take, drop, Ok, Err, Result, sym, refl, ap, ◌∙◌, subst, ap₂, subst₂, append_assoc, append-nil, arith, length-append, MatchResult}
+use Rattle.std.proofs.Common.{◌≡◌, ℕ, ◌+◌, ◌-◌, ◌<◌, ◌≤◌, Bool, true, cond, List, [], ◌∷◌, ◌++◌, length, get_or, take, drop, Ok, Err, Result, sym, refl, ap, ◌∙◌, subst, ap₂, subst₂, append_assoc, append-nil, arith, length-append, MatchResult}
 use mathlib.Core.List.Memᴰ
 use Rattle.std.proofs.lemmas.List.{take_more, drop_more, drop_all}
 use Rattle.std.proofs.lemmas.Bool.{cond-true}
@@ -63,7 +63,7 @@ others (t ∷ f) a = (
 )
 
 -- what was loaded are the other terms, where the row may be handed over
-pub loaded_others : {F : FieldMeaning} {O : Compare} {n : ℕ} (f whole back old new : Poly) (r : Bool) → whole ≡ f → back ≡ drop 1 whole → Acceptable F O n f → (r ≡ leb (length back) most_terms) × (new ≡ cond r back old) → new ≡ drop 1 f
+pub loaded_others : {E : Type 0} {F : FieldMeaning} {O : Compare} {n : ℕ} (f whole back old new : Poly) (r : Result (Unit {0}) E) → whole ≡ f → back ≡ drop 1 whole → Acceptable F O n f → MatchResult r (λ _. (length back ≤ most_terms) × (new ≡ back)) (λ _. (most_terms < length back) × (new ≡ old)) → new ≡ drop 1 f
 loaded_others f whole back old new r p q a e =
     let d : back ≡ drop 1 f = q ∙ ap (drop 1) p in
     let l : length back ≤ 39 = subst (λ x. length x ≤ 39) (sym d) (others f a).1 in

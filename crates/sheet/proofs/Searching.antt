@@ -10,13 +10,16 @@ use Rattle.sheet.specs.declared.choose.Pick.{Pick}
 use Rattle.sheet.specs.Choosing.{pick, raised, is_open, smaller, better, consider, scanned, chosen}
 
 module _ (O : Compare) (l : Lead) (xs : List (List Bool)) (k : ℕ) where
-  pub scan_step : (n i : ℕ) (best : Option Pick) → i < n → scanned O l xs k (suc i) (n - i) best ≡ scanned O l xs k (suc (i + 1)) (n - (i + 1)) (consider O l xs k (i + 1) best)
-  scan_step n i best h =
-      let z : n - i ≡ suc (n - (i + 1)) = omega arith in
-      ap (λ m. scanned O l xs k (suc i) m best) z ∙ ap (λ j. scanned O l xs k (suc j) (n - (i + 1)) (consider O l xs k j best)) (sym (add-one i))
+  pub scan_step : (n v : ℕ) (best : Option Pick) → v ≤ n → scanned O l xs k v (suc n - v) best ≡ scanned O l xs k (v + 1) (suc n - (v + 1)) (consider O l xs k v best)
+  scan_step n v best h =
+      let z : suc n - v ≡ suc (suc n - (v + 1)) = omega arith in
+      ap (λ m. scanned O l xs k v m best) z ∙ ap (λ j. scanned O l xs k j (suc n - (v + 1)) (consider O l xs k v best)) (sym (add-one v))
 
-  pub scan_end : (n i : ℕ) (best : Option Pick) → n ≤ i → scanned O l xs k (suc i) (n - i) best ≡ best
-  scan_end n i best h = let z : n - i ≡ 0 = omega arith in ap (λ m. scanned O l xs k (suc i) m best) z
+  pub scan_last : (n v : ℕ) (best : Option Pick) → n ≡ v → scanned O l xs k v (suc n - v) best ≡ consider O l xs k v best
+  scan_last n v best h = let z : suc n - v ≡ 1 = omega arith in ap (λ m. scanned O l xs k v m best) z
+
+  pub scan_end : (n v : ℕ) (best : Option Pick) → n < v → scanned O l xs k v (suc n - v) best ≡ best
+  scan_end n v best h = let z : suc n - v ≡ 0 = omega arith in ap (λ m. scanned O l xs k v m best) z
 
   pub taken : (v : ℕ) (best : Option Pick) (h : List ℕ) → true ≡ is_open l xs k v → h ≡ raised l v → better O (pick k v h) best ≡ consider O l xs k v best
   taken v best h e d = ap (λ x. better O (pick k v x) best) d ∙ sym (cond-true _ _ _ (sym e))

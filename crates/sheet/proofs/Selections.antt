@@ -25,6 +25,10 @@ use Rattle.sheet.proofs.Mapping.{map_at, element}
 pub lead_at : (rows : List Row) (k : ℕ) (d : Row) → Within k (length rows) → member (map lead_of rows) k ≡ lead_of (get_or rows (k - 1) d)
 lead_at rows k d w = get_or-map lead_of rows (k - 1) d [] (omega (arith, w))
 
+-- row i, counted from 0
+pub lead_from : (rows : List Row) (i : ℕ) (r : Row) → i < length rows → r ≡ get_or rows i r → member (map lead_of rows) (i + 1) ≡ lead_of r
+lead_from rows i r h e = lead_at rows (i + 1) r (omega arith, omega arith) ∙ ap (λ j. lead_of (get_or rows j r)) (let z : i + 1 - 1 ≡ i = omega arith in z) ∙ ap lead_of (sym e)
+
 -- ---- whether a member is divided
 
 pub decides_with : {a b u m : List ℕ} (r : Bool) → a ≡ u → b ≡ m → Decides r (Divides u m) → Decides r (Divides a b)
@@ -40,10 +44,10 @@ unseen_more U k i f h j w d = ⊎_elim (λ e. e ∙ h (subst (λ x. Divides (mem
 module _ (O : Compare) (U : List (List ℕ)) (k : ℕ) where
   -- ---- the place of k
 
-  pub place_step : (ks : List ℕ) (i : ℕ) → i < length ks → O (member U (get_or ks i 0)) (member U k) ≡ Less → take (i + 1) ks ++ placed O U k (drop (i + 1) ks) ≡ take i ks ++ placed O U k (drop i ks)
+  pub place_step : (ks : List ℕ) (i : ℕ) → i < length ks → is_lt (O (member U (get_or ks i 0)) (member U k)) ≡ true → take (i + 1) ks ++ placed O U k (drop (i + 1) ks) ≡ take i ks ++ placed O U k (drop i ks)
   place_step ks i h e =
       let x = get_or ks i 0 in
-      let a : placed O U k (drop i ks) ≡ x ∷ placed O U k (drop (i + 1) ks) = ap (placed O U k) (drop_more ks i 0 h) ∙ cond-true _ _ _ (ap is_lt e) in
+      let a : placed O U k (drop i ks) ≡ x ∷ placed O U k (drop (i + 1) ks) = ap (placed O U k) (drop_more ks i 0 h) ∙ cond-true _ _ _ e in
       ap (λ l. l ++ placed O U k (drop (i + 1) ks)) (take_more ks i 0 h) ∙ append_assoc (take i ks) (x ∷ []) (placed O U k (drop (i + 1) ks)) ∙ ap (λ l. take i ks ++ l) (sym a)
 
   pub place_stop : (ks : List ℕ) (i : ℕ) → i < length ks → is_lt (O (member U (get_or ks i 0)) (member U k)) ≡ false → insert ks i k ≡ take i ks ++ placed O U k (drop i ks)

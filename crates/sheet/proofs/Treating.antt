@@ -1,13 +1,15 @@
 -- What a step answers, from what became of the prolongation of its pair.
-use Rattle.std.proofs.Common.{◌≡◌, ℕ, ◌-◌, ◌<◌, ◌≤◌, arith, [], length, Bool, ◌&&◌, ◌||◌, eqb, List, Ok, Err, MatchBool, Result, sym, subst}
+use Rattle.std.proofs.Common.{◌≡◌, ℕ, ◌-◌, ◌<◌, ◌≤◌, arith, [], length, Bool, ◌&&◌, ◌||◌, eqb, List, Ok, Err, MatchResult, Result, sym, ap, subst}
 use lib.ListN.{length-map}
+use Rattle.std.specs.Result.{is_err}
+use Rattle.std.proofs.lemmas.Bool.{false≢true}
 use Rattle.monomial.specs.Monomial.{variable}
 use Rattle.polynomial.specs.Polynomial.{Poly}
 use Rattle.polynomial.specs.Check.{Acceptable, Fits, most_terms}
 use Rattle.involutive.specs.Reduction.{refuse, row}
 use Rattle.involutive.specs.Value.{scaled}
 use Rattle.involutive.specs.Sheet.{Setting, Lawful, State, Chosen, with_mark}
-use Rattle.involutive.specs.Answers.{Answer, Steps, denied, marked_answer, appended_answer, step_wide, step_stuck, step_mark, step_full, step_row}
+use Rattle.involutive.specs.Answers.{Steps, denied, marked_answer, appended_answer, step_wide, step_stuck, step_mark, step_full, step_row}
 use Rattle.involutive.specs.Sound.{Row as Good}
 use Rattle.involutive.proofs.Monomials
 use Rattle.involutive.proofs.Typing.{ground_of}
@@ -49,12 +51,8 @@ module _ (S : Setting) (W : Lawful S) (rows : List Row) (xs : List (List Bool)) 
     short = subst (λ x. x ≤ most_terms) (sym (Values.length_scaled S.field 1 (variable v) (row s.rows k))) good.acceptable.short;
   }
 
-  -- the answer and the sheet after it
-  abbrev pub Treats : Answer → List Row → List (List Bool) → Type 0
-  Treats a rows' xs' = Steps S s a (state_of rows' xs') × SoundTable S rows'
-
-  pub treat_wide : (Fits h → ⊥) → Treats (denied (refuse 9 k)) rows xs
-  treat_wide f = (step_wide C f, T)
+  pub treat_wide : (Fits h → ⊥) → Steps S s (denied (refuse 9 k)) s
+  treat_wide f = step_wide C f
 
   denied_steps : {d : Refusal} {s' : State} → Fits h → Settles S s h (Err d) s' → Steps S s (denied (told d)) s'
   denied_steps f (stuck R) = step_stuck C f R
@@ -67,27 +65,29 @@ module _ (S : Setting) (W : Lawful S) (rows : List Row) (xs : List (List Bool)) 
   appended_steps f (appends R l) = step_row C f R l
 
   -- what prolonging a row of the slice says of the rows
-  abbrev pub Prolongs : List Row → Bool → Poly → Type 0
-  Prolongs rows r p = SoundTable S rows → MatchBool r (Fits (line rows) × (p ≡ line rows)) (Fits (line rows) → ⊥)
+  abbrev pub Prolongs : {E : Type 0} → List Row → Result (Unit {0}) E → Poly → Type 0
+  Prolongs rows r p = SoundTable S rows → MatchResult r (λ _. Fits (line rows) × (p ≡ line rows)) (λ _. Fits (line rows) → ⊥)
 
-  pub at_rows : {slice : List Row} (r : Bool) (p : Poly) → slice ≡ rows → Prolongs slice r p → MatchBool r (Fits h × (p ≡ h)) (Fits h → ⊥)
+  pub at_rows : {E : Type 0} {slice : List Row} (r : Result (Unit {0}) E) (p : Poly) → slice ≡ rows → Prolongs slice r p → MatchResult r (λ _. Fits h × (p ≡ h)) (λ _. Fits h → ⊥)
   at_rows r p e q = subst (λ x. Prolongs x r p) e q T
 
-  -- what settling says of what was prolonged
-  abbrev pub Says : Poly → Result Settled Refusal → List Row → List (List Bool) → Type 0
-  Says p r rows' xs' = SoundTable S rows → Acceptable S.field S.order S.variables p → Settles S s p r (state_of rows' xs') × SoundTable S rows'
+  pub was_wide : {E : Type 0} (r : Result (Unit {0}) E) (p : Poly) → MatchResult r (λ _. Fits h × (p ≡ h)) (λ _. Fits h → ⊥) → (e : E) → r ≡ Err e → Fits h → ⊥
+  was_wide (Ok u) p m e q = absurd (false≢true (ap is_err q))
+  was_wide (Err d) p m e q = m
 
-  settled : (p : Poly) (r : Result Settled Refusal) (rows' : List Row) (xs' : List (List Bool)) → Fits h × (p ≡ h) → Says p r rows' xs' → Settles S s h r (state_of rows' xs') × SoundTable S rows'
-  settled p r rows' xs' f q = subst (λ x. Says x r rows' xs') f.1 q T (acceptable f.0)
+  pub had_room : {E : Type 0} (r : Result (Unit {0}) E) (p : Poly) → MatchResult r (λ _. Fits h × (p ≡ h)) (λ _. Fits h → ⊥) → r ≡ Ok tt → Fits h × (p ≡ h)
+  had_room (Ok u) p m q = m
+  had_room (Err d) p m q = absurd (false≢true (sym (ap is_err q)))
 
-  pub treat_denied : (p : Poly) (d : Refusal) (rows' : List Row) (xs' : List (List Bool)) → Fits h × (p ≡ h) → Says p (Err d) rows' xs' → Treats (denied (told d)) rows' xs'
-  treat_denied p d rows' xs' f q = let z = settled p (Err d) rows' xs' f q in (denied_steps f.0 z.0, z.1)
+  -- from what settling says of what was prolonged
+  pub treat_denied : (p : Poly) (d : Refusal) (s' : State) → Fits h × (p ≡ h) → Settles S s p (Err d) s' → Steps S s (denied (told d)) s'
+  treat_denied p d s' f q = denied_steps f.0 (subst (λ x. Settles S s x (Err d) s') f.1 q)
 
-  pub treat_appended : (p : Poly) (x : Settled) (rows' : List Row) (xs' : List (List Bool)) → x ≡ Appended → Fits h × (p ≡ h) → Says p (Ok x) rows' xs' → Treats appended_answer rows' xs'
-  treat_appended p x rows' xs' e f q = let z = settled p (Ok Appended) rows' xs' f (subst (λ x. Says p (Ok x) rows' xs') e q) in (appended_steps f.0 z.0, z.1)
+  pub treat_appended : (p : Poly) (x : Settled) (s' : State) → x ≡ Appended → Fits h × (p ≡ h) → Settles S s p (Ok x) s' → Steps S s appended_answer s'
+  treat_appended p x s' e f q = appended_steps f.0 (subst (λ y. Settles S s y (Ok Appended) s') f.1 (subst (λ y. Settles S s p (Ok y) s') e q))
 
-  pub treat_marked : (p : Poly) (x : Settled) (rows' : List Row) (xs' ys : List (List Bool)) → x ≡ Nothing → Fits h × (p ≡ h) → Says p (Ok x) rows' xs' → ((j u : ℕ) → marked ys j u ≡ ((eqb j k && eqb u v) || marked xs' j u)) → Treats marked_answer rows' ys
+  pub treat_marked : (p : Poly) (x : Settled) (rows' : List Row) (xs' ys : List (List Bool)) → x ≡ Nothing → Fits h × (p ≡ h) → Settles S s p (Ok x) (state_of rows' xs') → ((j u : ℕ) → marked ys j u ≡ ((eqb j k && eqb u v) || marked xs' j u)) → Steps S s marked_answer (state_of rows' ys)
   treat_marked p x rows' xs' ys e f q m =
-      let z = settled p (Ok Nothing) rows' xs' f (subst (λ x. Says p (Ok x) rows' xs') e q) in
+      let z = subst (λ y. Settles S s y (Ok Nothing) (state_of rows' xs')) f.1 (subst (λ y. Settles S s p (Ok y) (state_of rows' xs')) e q) in
       let w : with_mark (state_of rows' xs') k v ≡ state_of rows' ys = λ i. record { rows = table_of rows'; marks = λ j u. sym (m j u) i } in
-      (subst (Steps S s marked_answer) w (marked_steps f.0 z.0), z.1)
+      subst (Steps S s marked_answer) w (marked_steps f.0 z)

@@ -1,12 +1,12 @@
 -- The marks of a sheet, as the code keeps them.
-use Rattle.std.specs.Prelude.{ℕ, ◌-◌, Bool, false, ◌&&◌, List, [], map, nat_lt, slice_index_or}
+use Rattle.std.specs.Prelude.{ℕ, ◌-◌, Bool, false, ◌&&◌, List, [], nat_lt, slice_index_or}
 use Rattle.reduction.specs.declared.table.Row.{Row}
 use Rattle.reduction.specs.Table.{table_of}
 use Rattle.involutive.specs.Sheet.{State}
 use Rattle.sheet.specs.declared.marks.Marks.{Marks}
 
 abbrev pub rows_of : Marks → List (List Bool)
-rows_of m = map (λ r. r.set) m.rows
+rows_of m = m.rows
 
 -- the mark at row k and variable v, both counted from 1
 abbrev pub marked : List (List Bool) → ℕ → ℕ → Bool

@@ -3,7 +3,7 @@ use Rattle.std.specs.Prelude.{◌≡◌, ◌<◌, [], ◌∷◌, length, Ok, Err
 use Rattle.polynomial.specs.declared.term.Term.{Term}
 use Rattle.polynomial.specs.Polynomial.{Poly}
 use Rattle.polynomial.specs.Check.{most_terms}
-use Rattle.involutive.specs.Reduction.{left, refused}
+use Rattle.involutive.specs.Reduction.{Outcome, left, refused}
 use Rattle.involutive.specs.Sheet.{Setting, State, most_rows, with_row}
 use Rattle.involutive.specs.Answers.{ReducesTo}
 use Rattle.calls.specs.declared.refusal.Refusal.{Refusal}
@@ -11,6 +11,11 @@ use Rattle.calls.specs.declared.refusal.Refusal.TheVariants.{Full}
 use Rattle.calls.specs.Told.{told}
 use Rattle.sheet.specs.declared.settle.Settled.{Settled}
 use Rattle.sheet.specs.declared.settle.Settled.TheVariants.{Nothing, Appended}
+
+-- what is left of a polynomial, or why reducing is refused
+abbrev pub outcome : Result (Unit {0}) Refusal → Poly → Outcome
+outcome (Ok u) g = left g
+outcome (Err d) g = refused (told d)
 
 -- `Settles S s h r s'`: what becomes of h on a sheet with state s, and the state after it
 pub data Settles (S : Setting) (s : State) (h : Poly) : Result Settled Refusal → State → Type 0 where

@@ -2,20 +2,25 @@
 // the lowest row.
 //
 // The contracts say what the code does on every value; that it is the chosen pair is shown of them where a step is made.
-ghost use Rattle.std.specs.Prelude.{◌≡◌, ℕ, ◌≤◌, not, length, is_some, IfSome, None};
+ghost use Rattle.std.specs.Prelude.{◌≡◌, ℕ, ◌≤◌, not, is_some, IfSome, None, vec_len};
 ghost use Rattle.monomial.specs.Division.{Within};
 ghost use Rattle.monomial.specs.Monomial.{width};
 ghost use Rattle.involutive.specs.Sheet.{most_rows};
 ghost use Rattle.sheet.specs.Marks.{rows_of};
-ghost use Rattle.sheet.specs.Choosing.{capped_raise, is_open as opens, better as bettered, scanned, chosen};
+ghost use Rattle.sheet.specs.Choosing.{capped_raise, is_open as opens, better as bettered, consider as considered, scanned, chosen};
 
 use crate::marks::Marks;
+use crate::sheet::Sheet;
+use field::Field;
 use monomial::Monomial;
+use monomial::division::Division;
 use monomial::order::Order;
-use reduction::table::{Lead, Row};
+use polynomial::ring::Ring;
+use reduction::table::Lead;
 use std::cmp::Ordering;
 
-// A pair, and its row's leading monomial times its variable; both count from 1.
+// A pair, and its row's leading monomial times its variable; both count from 1. That they are in range stands in the
+// contracts and not in the type, so that the definitions can speak of any pair.
 #[derive(Clone, Copy)]
 pub(crate) struct Pick {
     pub(crate) row: usize,
@@ -28,25 +33,25 @@ fn raise(m: &Monomial, v: usize) -> Monomial
     requires { Within v width }
     ensures { result.exponents ≡ capped_raise m.now.exponents v }
 {
-    let mut exponents = m.exponents;
-    exponents[v - 1] = exponents[v - 1].saturating_add(1);
-    Monomial { exponents }
+    let mut raised = *m;
+    raised.exponents[v - 1] = m.exponents[v - 1].saturating_add(1);
+    raised
 }
 
-// The smaller one, and at a tie the one that is there.
-fn better<O: Order>(order: &O, pick: Pick, best: Option<Pick>) -> Option<Pick>
-    ensures { result ≡ bettered (O.Order.meaning order.now) pick best }
+// Keeps the smaller one, and at a tie the one that is there.
+fn keep_better<O: Order>(order: &O, pick: Pick, best: &mut Option<Pick>)
+    ensures { best.new ≡ bettered (O.Order.meaning order.now) pick best.old }
 {
-    match best {
-        None => Some(pick),
-        Some(old) => match order.compare(&pick.height, &old.height) {
-            Ordering::Less => Some(pick),
-            Ordering::Equal => Some(old),
-            Ordering::Greater => Some(old),
-        },
+    let is_smaller = match best {
+        None => true,
+        Some(old) => order.compare(&pick.height, &old.height) == Ordering::Less,
+    };
+    if is_smaller {
+        *best = Some(pick);
     }
 }
 
+// Whether the variable is not multiplicative and the pair is not marked.
 fn is_open(lead: &Lead, marks: &Marks, k: usize, v: usize) -> bool
     requires { Within k most_rows × Within v width }
     ensures { result ≡ opens lead.now (rows_of marks.now) k v }
@@ -54,58 +59,61 @@ fn is_open(lead: &Lead, marks: &Marks, k: usize, v: usize) -> bool
     !lead.multiplicative[v - 1] && !marks.has(k, v)
 }
 
-// The pairs of row k.
-fn scan<O: Order>(
+// Row k and variable v, where that pair is open.
+fn consider<O: Order>(
     order: &O,
-    variables: usize,
     lead: &Lead,
     marks: &Marks,
     k: usize,
-    first: Option<Pick>,
-) -> Option<Pick>
-    requires { Within k most_rows × (variables ≤ width) }
-    ensures { result ≡ scanned (O.Order.meaning order.now) lead.now (rows_of marks.now) k 1 variables first }
+    v: usize,
+    best: &mut Option<Pick>,
+)
+    requires { Within k most_rows × Within v width }
+    ensures { best.new ≡ considered (O.Order.meaning order.now) lead.now (rows_of marks.now) k v best.old }
 {
-    let mut best = first;
-    for i in 0..variables {
-        let v = i + 1;
-        if is_open(lead, marks, k, v) {
-            let pick = Pick {
-                row: k,
-                variable: v,
-                height: raise(&lead.monomial, v),
-            };
-            best = better(order, pick, best);
-        }
+    if is_open(lead, marks, k, v) {
+        let pick = Pick {
+            row: k,
+            variable: v,
+            height: raise(&lead.monomial, v),
+        };
+        keep_better(order, pick, best);
     }
-    best
 }
 
-// The pair that a step takes, or nothing where every pair is marked.
-pub(crate) fn choose<O: Order>(
-    order: &O,
-    variables: usize,
-    rows: &[Row],
+// The pairs of row k.
+fn scan<F: Field, O: Order>(
+    ring: &Ring<F, O>,
+    lead: &Lead,
     marks: &Marks,
-) -> Option<Pick>
-    requires { (length rows.now ≤ most_rows) × (variables ≤ width) }
-    ensures within { IfSome result (λ p. Within p.row (length rows.now) × Within p.variable variables) }
-    ensures smallest { result ≡ chosen (O.Order.meaning order.now) variables (rows_of marks.now) rows.now 1 None }
+    k: usize,
+    best: &mut Option<Pick>,
+)
+    requires { Within k most_rows × (ring.now.variables ≤ width) }
+    ensures { best.new ≡ scanned (O.Order.meaning ring.now.order) lead.now (rows_of marks.now) k 1 ring.now.variables best.old }
 {
-    let mut best = None;
-    for i in 0..rows.len() {
-        best = scan(order, variables, &rows[i].lead, marks, i + 1, best);
+    for v in 1..=ring.variables {
+        consider(&ring.order, lead, marks, k, v, best);
     }
-    best
 }
 
-// Whether every pair is marked.
-pub(crate) fn is_closed<O: Order>(order: &O, variables: usize, rows: &[Row], marks: &Marks) -> bool
-    requires { (length rows.now ≤ most_rows) × (variables ≤ width) }
-    ensures { result ≡ not (is_some (chosen (O.Order.meaning order.now) variables (rows_of marks.now) rows.now 1 None)) }
-{
-    match choose(order, variables, rows, marks) {
-        None => true,
-        Some(_) => false,
+impl<F: Field, O: Order, D: Division> Sheet<F, O, D> {
+    // The pair that a step takes, or nothing where every pair is marked.
+    pub(crate) fn choose(&self) -> Option<Pick>
+        ensures within { IfSome result (λ p. Within p.row (vec_len self.now.table.rows) × Within p.variable self.now.ring.variables) }
+        ensures smallest { result ≡ chosen (O.Order.meaning self.now.ring.order) self.now.ring.variables (rows_of self.now.marks) self.now.table.rows.items 1 None }
+    {
+        let mut best = None;
+        for (i, row) in self.table.rows.iter().enumerate() {
+            scan(&self.ring, &row.lead, &self.marks, i + 1, &mut best);
+        }
+        best
+    }
+
+    // Whether every pair is marked.
+    pub(crate) fn is_closed(&self) -> bool
+        ensures { result ≡ not (is_some (chosen (O.Order.meaning self.now.ring.order) self.now.ring.variables (rows_of self.now.marks) self.now.table.rows.items 1 None)) }
+    {
+        self.choose().is_none()
     }
 }

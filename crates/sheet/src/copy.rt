@@ -12,7 +12,7 @@ ghost use Rattle.sheet.specs.Marks.{state_of};
 ghost use Rattle.sheet.specs.Copying.{row_room, copy_room, RowCopied, RowsCopied, Delivered};
 
 use crate::select::select;
-use crate::settle::{Work, refusal_of};
+use crate::settle::reduce;
 use crate::table::MOST_ROWS;
 use calls::answer::Copied;
 use calls::refusal::Refusal;
@@ -20,8 +20,9 @@ use field::Field;
 use monomial::order::Order;
 use polynomial::bytes::{TERM_BYTES, term_bytes};
 use polynomial::check::MOST_TERMS;
+use polynomial::ring::Ring;
 use polynomial::term::Term;
-use reduction::reduce::reduce_within;
+use reduction::reduce::Work;
 use reduction::table::Row;
 use std::alloc::{AllocError, Global};
 
@@ -70,8 +71,7 @@ fn push_terms(terms: &[Term], bytes: &mut Vec<u8>)
 // The copy of a row: its leading term and what reducing leaves of the others, with room for 39 terms, so that the copy
 // has at most 40.
 fn copy_row<F: Field, O: Order>(
-    field: &F,
-    order: &O,
+    ring: &Ring<F, O>,
     rows: &[Row],
     row: &Row,
     work: &mut Work,
@@ -80,33 +80,21 @@ fn copy_row<F: Field, O: Order>(
     requires { vec_len bytes.old + row_room ≤ vec_capacity bytes.old }
     ensures len { vec_len bytes.new ≤ vec_len bytes.old + row_room }
     ensures room { vec_capacity bytes.old ≤ vec_capacity bytes.new }
-    ensures copy { (D : Split) (n : ℕ) → SoundTable (setting (F.Field.meaning field.now) (O.Order.meaning order.now) D n) rows.now → Good (setting (F.Field.meaning field.now) (O.Order.meaning order.now) D n) (terms_of row.now) → RowCopied (setting (F.Field.meaning field.now) (O.Order.meaning order.now) D n) (table_of rows.now) (terms_of row.now) result bytes.old.items bytes.new.items }
+    ensures copy { (D : Split) (n : ℕ) → SoundTable (setting (F.Field.meaning ring.now.field) (O.Order.meaning ring.now.order) D n) rows.now → Good (setting (F.Field.meaning ring.now.field) (O.Order.meaning ring.now.order) D n) (terms_of row.now) → RowCopied (setting (F.Field.meaning ring.now.field) (O.Order.meaning ring.now.order) D n) (table_of rows.now) (terms_of row.now) result bytes.old.items bytes.new.items }
 {
     let (first, others) = row.terms.as_slice().split_at(1);
-    let _ = work.rest.load(others);
-    match reduce_within(
-        field,
-        order,
-        rows,
-        MOST_TERMS - 1,
-        &mut work.rest,
-        &mut work.done,
-        &mut work.spare,
-    ) {
-        Err(denied) => Err(refusal_of(denied)),
-        Ok(()) => {
-            push_terms(first, bytes);
-            push_terms(work.done.terms.as_slice(), bytes);
-            bytes.push_reserved(END_OF_ROW);
-            Ok(())
-        }
-    }
+    // A row has at most 40 terms, so there is room.
+    let _ = work.load(others);
+    reduce(ring, rows, MOST_TERMS - 1, work)?;
+    push_terms(first, bytes);
+    push_terms(work.done.terms.as_slice(), bytes);
+    bytes.push_reserved(END_OF_ROW);
+    Ok(())
 }
 
 // The copies of the listed rows, which count from 1, up to the first that is denied.
 fn copy_rows<F: Field, O: Order>(
-    field: &F,
-    order: &O,
+    ring: &Ring<F, O>,
     rows: &[Row],
     list: &[usize],
     work: &mut Work,
@@ -114,15 +102,11 @@ fn copy_rows<F: Field, O: Order>(
 ) -> Result<(), Refusal>
     requires { (length list.now ≤ most_rows) × ((k : ℕ) → Memᴰ k list.now → Within k (length rows.now)) × (copy_room ≤ vec_capacity bytes.old) }
     ensures room { copy_room ≤ vec_capacity bytes.new }
-    ensures copies { (D : Split) (n : ℕ) (xs : List (List Bool)) → SoundTable (setting (F.Field.meaning field.now) (O.Order.meaning order.now) D n) rows.now → RowsCopied (setting (F.Field.meaning field.now) (O.Order.meaning order.now) D n) (state_of rows.now xs) list.now result bytes.new.items }
+    ensures copies { (D : Split) (n : ℕ) (xs : List (List Bool)) → SoundTable (setting (F.Field.meaning ring.now.field) (O.Order.meaning ring.now.order) D n) rows.now → RowsCopied (setting (F.Field.meaning ring.now.field) (O.Order.meaning ring.now.order) D n) (state_of rows.now xs) list.now result bytes.new.items }
 {
     bytes.clear();
-    for i in 0..list.len() {
-        let row = &rows[list[i] - 1];
-        match copy_row(field, order, rows, row, work, bytes) {
-            Err(refusal) => return Err(refusal),
-            Ok(()) => {}
-        }
+    for k in list {
+        copy_row(ring, rows, &rows[*k - 1], work, bytes)?;
     }
     Ok(())
 }
@@ -144,8 +128,7 @@ fn write_copy(rows: usize, bytes: &[u8], out: &mut [u8]) -> Result<Copied, Refus
 
 // The fair copy of a closed sheet with these rows, into the lent bytes: how many rows and bytes it has.
 pub(crate) fn write_fair_copy<F: Field, O: Order>(
-    field: &F,
-    order: &O,
+    ring: &Ring<F, O>,
     rows: &[Row],
     work: &mut Work,
     buffer: &mut CopyBuffer,
@@ -153,18 +136,9 @@ pub(crate) fn write_fair_copy<F: Field, O: Order>(
 ) -> Result<Copied, Refusal>
     requires { length rows.now ≤ most_rows }
     ensures within { MatchResult result (λ c. c.bytes ≤ length out.old) (λ _. out.new ≡ out.old) }
-    ensures answer { (D : Split) (n : ℕ) (xs : List (List Bool)) → SoundTable (setting (F.Field.meaning field.now) (O.Order.meaning order.now) D n) rows.now → Sound (setting (F.Field.meaning field.now) (O.Order.meaning order.now) D n) (state_of rows.now xs) → Closed (setting (F.Field.meaning field.now) (O.Order.meaning order.now) D n) (state_of rows.now xs) → FairCopies (setting (F.Field.meaning field.now) (O.Order.meaning order.now) D n) (state_of rows.now xs) out.old (copied result) out.new }
+    ensures answer { (D : Split) (n : ℕ) (xs : List (List Bool)) → SoundTable (setting (F.Field.meaning ring.now.field) (O.Order.meaning ring.now.order) D n) rows.now → Sound (setting (F.Field.meaning ring.now.field) (O.Order.meaning ring.now.order) D n) (state_of rows.now xs) → Closed (setting (F.Field.meaning ring.now.field) (O.Order.meaning ring.now.order) D n) (state_of rows.now xs) → FairCopies (setting (F.Field.meaning ring.now.field) (O.Order.meaning ring.now.order) D n) (state_of rows.now xs) out.old (copied result) out.new }
 {
-    select(order, rows, &mut buffer.list);
-    match copy_rows(
-        field,
-        order,
-        rows,
-        buffer.list.as_slice(),
-        work,
-        &mut buffer.bytes,
-    ) {
-        Err(refusal) => Err(refusal),
-        Ok(()) => write_copy(buffer.list.len(), buffer.bytes.as_slice(), out),
-    }
+    select(&ring.order, rows, &mut buffer.list);
+    copy_rows(ring, rows, buffer.list.as_slice(), work, &mut buffer.bytes)?;
+    write_copy(buffer.list.len(), buffer.bytes.as_slice(), out)
 }

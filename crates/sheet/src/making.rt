@@ -6,15 +6,15 @@ ghost use Rattle.sheet.specs.Marks.{rows_of, state_of};
 
 use crate::copy::CopyBuffer;
 use crate::marks::Marks;
-use crate::settle::Work;
 use crate::sheet::Sheet;
-use crate::table::{Table, new_table};
+use crate::table::Table;
 use crate::unmade::Unmade;
 use field::Field;
 use monomial::WIDTH;
 use monomial::division::Division;
 use monomial::order::Order;
-use reduction::buffer::Buffer;
+use polynomial::ring::Ring;
+use reduction::reduce::Work;
 use std::alloc::{AllocError, Global};
 
 // The memory of a sheet without rows.
@@ -28,16 +28,10 @@ struct Memory {
 fn take_memory(heap: Global) -> Result<Memory, AllocError>
     ensures { IfOk result (λ m. m.table.rows.items ≡ []) }
 {
-    let table = new_table(heap)?;
-    let rest = Buffer::new(heap)?;
-    let done = Buffer::new(heap)?;
-    let spare = Buffer::new(heap)?;
+    let table = Table::new(heap)?;
+    let work = Work::new(heap)?;
     let copy = CopyBuffer::new(heap)?;
-    Ok(Memory {
-        table,
-        work: Work { rest, done, spare },
-        copy,
-    })
+    Ok(Memory { table, work, copy })
 }
 
 impl<F: Field + Drop, O: Order + Drop, D: Division + Drop> Sheet<F, O, D> {
@@ -49,23 +43,23 @@ impl<F: Field + Drop, O: Order + Drop, D: Division + Drop> Sheet<F, O, D> {
         division: D,
         variables: usize,
     ) -> Result<Sheet<F, O, D>, Unmade>
-        ensures made { MatchResult result (λ x. Begins (setting_of (F.Field.meaning field) (O.Order.meaning order) (D.Division.meaning division) variables) (setting_of (F.Field.meaning x.field) (O.Order.meaning x.order) (D.Division.meaning x.division) x.variables) (state_of x.table.rows.items (rows_of x.marks))) (Denies variables) }
+        ensures made { MatchResult result (λ x. Begins (setting_of (F.Field.meaning field) (O.Order.meaning order) (D.Division.meaning division) variables) (setting_of (F.Field.meaning x.ring.field) (O.Order.meaning x.ring.order) (D.Division.meaning x.division) x.ring.variables) (state_of x.table.rows.items (rows_of x.marks))) (Denies variables) }
     {
         if variables == 0 || variables > WIDTH {
             return Err(Unmade::Variables);
         }
-        match take_memory(heap) {
-            Err(_) => Err(Unmade::Memory),
-            Ok(memory) => Ok(Sheet {
+        let memory = take_memory(heap).map_err(|_| Unmade::Memory)?;
+        Ok(Sheet {
+            ring: Ring {
                 field,
                 order,
-                division,
                 variables,
-                table: memory.table,
-                marks: Marks::none(),
-                work: memory.work,
-                copy: memory.copy,
-            }),
-        }
+            },
+            division,
+            table: memory.table,
+            marks: Marks::none(),
+            work: memory.work,
+            copy: memory.copy,
+        })
     }
 }

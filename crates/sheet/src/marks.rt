@@ -1,5 +1,5 @@
 // Which pairs of a row and a variable are marked.
-ghost use Rattle.std.specs.Prelude.{◌≡◌, ℕ, ◌<◌, ◌≤◌, Bool, true, false, ◌&&◌, ◌||◌, List, map, length, set, ◌==◌, slice_set};
+ghost use Rattle.std.specs.Prelude.{◌≡◌, ℕ, ◌<◌, ◌≤◌, Bool, true, false, ◌&&◌, ◌||◌, List, length, ◌==◌, slice_set};
 ghost use Rattle.monomial.specs.Division.{Within};
 ghost use Rattle.monomial.specs.Monomial.{width};
 ghost use Rattle.involutive.specs.Sheet.{most_rows};
@@ -8,27 +8,21 @@ ghost use Rattle.sheet.specs.Marks.{rows_of, marked};
 use crate::table::MOST_ROWS;
 use monomial::WIDTH;
 
-// The variables at which one row is marked.
-#[derive(Clone, Copy)]
-pub(crate) struct MarkRow {
-    pub(crate) set: [bool; WIDTH],
-}
-
-// Which pairs are marked.
+// For each row, at which variables it is marked.
 #[derive(Clone, Copy)]
 pub(crate) struct Marks {
-    pub(crate) rows: [MarkRow; MOST_ROWS],
+    pub(crate) rows: [[bool; WIDTH]; MOST_ROWS],
 }
 
-// One variable more, counted from 0.
-fn mark_at(row: &MarkRow, v: usize) -> MarkRow
+// One variable more, counted from 0. It stands apart because it tells how long a row is.
+fn with_mark(row: [bool; WIDTH], v: usize) -> [bool; WIDTH]
     requires { v < width }
-    ensures changed { result.set ≡ slice_set row.now.set v true }
-    ensures wide { v < length row.now.set }
+    ensures changed { result ≡ slice_set row v true }
+    ensures wide { v < length row }
 {
-    let mut set = row.set;
-    set[v] = true;
-    MarkRow { set }
+    let mut marked = row;
+    marked[v] = true;
+    marked
 }
 
 impl Marks {
@@ -37,9 +31,7 @@ impl Marks {
         ensures { (k v : ℕ) → marked (rows_of result) k v ≡ false }
     {
         Marks {
-            rows: [MarkRow {
-                set: [false; WIDTH],
-            }; MOST_ROWS],
+            rows: [[false; WIDTH]; MOST_ROWS],
         }
     }
 
@@ -49,7 +41,7 @@ impl Marks {
         ensures { (j u : ℕ) → marked (rows_of self.new) j u ≡ ((j == k && u == v) || marked (rows_of self.old) j u) }
     {
         let row = self.rows[k - 1];
-        self.rows[k - 1] = mark_at(&row, v - 1);
+        self.rows[k - 1] = with_mark(row, v - 1);
     }
 
     // Whether row k is marked at variable v; both count from 1.
@@ -57,6 +49,6 @@ impl Marks {
         requires { Within k most_rows × Within v width }
         ensures { result ≡ marked (rows_of self.now) k v }
     {
-        self.rows[k - 1].set[v - 1]
+        self.rows[k - 1][v - 1]
     }
 }

@@ -1,5 +1,5 @@
 // Prolonging: a row times a variable.
-ghost use Rattle.std.specs.Prelude.{◌≡◌, ℕ, length, MatchBool};
+ghost use Rattle.std.specs.Prelude.{◌≡◌, ℕ, length, MatchResult};
 ghost use Rattle.monomial.specs.Division.{Split, Within};
 ghost use Rattle.monomial.specs.Monomial.{width, variable as power};
 ghost use Rattle.monomial.specs.Order.{Compare};
@@ -9,8 +9,10 @@ ghost use Rattle.involutive.specs.Reduction.{row as line};
 ghost use Rattle.reduction.specs.Table.{setting, table_of, SoundTable};
 
 use field::Field;
-use monomial::{Monomial, WIDTH};
+use monomial::Monomial;
+use polynomial::term::Term;
 use reduction::buffer::Buffer;
+use reduction::refusal::Reason;
 use reduction::scale::scale;
 use reduction::table::Row;
 
@@ -19,9 +21,9 @@ fn variable(v: usize) -> Monomial
     requires { Within v width }
     ensures { result.exponents ≡ power v }
 {
-    let mut exponents = [0; WIDTH];
-    exponents[v - 1] = 1;
-    Monomial { exponents }
+    let mut x = Monomial::ONE;
+    x.exponents[v - 1] = 1;
+    x
 }
 
 // Row k times variable v into the buffer, where no exponent is above 40; both count from 1.
@@ -31,11 +33,14 @@ pub(crate) fn prolong<F: Field>(
     k: usize,
     v: usize,
     out: &mut Buffer,
-) -> bool
+) -> Result<(), Reason>
     requires { Within k (length rows.now) × Within v width }
-    ensures { (O : Compare) (D : Split) (n : ℕ) → SoundTable (setting (F.Field.meaning field.now) O D n) rows.now → MatchBool result (Fits (scaled (F.Field.meaning field.now) 1 (power v) (line (table_of rows.now) k)) × (out.new.terms.items ≡ scaled (F.Field.meaning field.now) 1 (power v) (line (table_of rows.now) k))) (Fits (scaled (F.Field.meaning field.now) 1 (power v) (line (table_of rows.now) k)) → ⊥) }
+    ensures { (O : Compare) (D : Split) (n : ℕ) → SoundTable (setting (F.Field.meaning field.now) O D n) rows.now → MatchResult result (λ _. Fits (scaled (F.Field.meaning field.now) 1 (power v) (line (table_of rows.now) k)) × (out.new.terms.items ≡ scaled (F.Field.meaning field.now) 1 (power v) (line (table_of rows.now) k))) (λ _. Fits (scaled (F.Field.meaning field.now) 1 (power v) (line (table_of rows.now) k)) → ⊥) }
 {
-    let x = variable(v);
+    let factor = Term {
+        coefficient: 1,
+        monomial: variable(v),
+    };
     let row = &rows[k - 1];
-    scale(field, row.terms.as_slice(), 1, &x, out)
+    scale(field, row.terms.as_slice(), &factor, out)
 }

@@ -4,7 +4,6 @@
 ghost use Rattle.std.specs.Prelude.{◌≡◌, ℕ, ◌≤◌, map, length, vec_len, vec_capacity, Decides};
 ghost use mathlib.Core.List.{Memᴰ};
 ghost use Rattle.std.specs.List.{insert};
-ghost use Rattle.monomial.specs.Monomial.{Divides};
 ghost use Rattle.monomial.specs.Division.{Distinct, Within, member};
 ghost use Rattle.involutive.specs.Sheet.{most_rows};
 ghost use Rattle.sheet.specs.Rows.{lead_of};
@@ -14,24 +13,14 @@ use monomial::order::Order;
 use reduction::table::Row;
 use std::cmp::Ordering;
 
-// Whether the leading monomial of row j divides that of row k.
-fn lead_divides(rows: &[Row], j: usize, k: usize) -> bool
-    requires { Within j (length rows.now) × Within k (length rows.now) }
-    ensures { Decides result (Divides (member (map lead_of rows.now) j) (member (map lead_of rows.now) k)) }
-{
-    let other = rows[j - 1].lead.monomial;
-    let own = rows[k - 1].lead.monomial;
-    other.divides(&own)
-}
-
 // Whether no other row's leading monomial divides that of row k.
 fn is_minimal(rows: &[Row], k: usize) -> bool
     requires { Within k (length rows.now) }
     ensures { Decides result (Undivided (map lead_of rows.now) k) }
 {
-    for i in 0..rows.len() {
-        let j = i + 1;
-        if j != k && lead_divides(rows, j, k) {
+    let own = rows[k - 1].lead.monomial;
+    for (i, other) in rows.iter().enumerate() {
+        if i + 1 != k && other.lead.monomial.divides(&own) {
             return false;
         }
     }
@@ -43,9 +32,7 @@ fn compare_leads<O: Order>(order: &O, rows: &[Row], j: usize, k: usize) -> Order
     requires { Within j (length rows.now) × Within k (length rows.now) }
     ensures { result ≡ O.Order.meaning order.now (member (map lead_of rows.now) j) (member (map lead_of rows.now) k) }
 {
-    let first = rows[j - 1].lead.monomial;
-    let second = rows[k - 1].lead.monomial;
-    order.compare(&first, &second)
+    order.compare(&rows[j - 1].lead.monomial, &rows[k - 1].lead.monomial)
 }
 
 // Where row k goes in the list: before the first row that does not stand below it.
@@ -54,17 +41,15 @@ fn place_of<O: Order>(order: &O, rows: &[Row], list: &[usize], k: usize) -> usiz
     ensures range { result ≤ length list.now }
     ensures place { insert list.now result k ≡ placed (O.Order.meaning order.now) (map lead_of rows.now) k list.now }
 {
-    for i in 0..list.len() {
-        match compare_leads(order, rows, list[i], k) {
-            Ordering::Less => {}
-            Ordering::Equal => return i,
-            Ordering::Greater => return i,
+    for (i, j) in list.iter().enumerate() {
+        if !compare_leads(order, rows, *j, k).is_lt() {
+            return i;
         }
     }
     list.len()
 }
 
-// The numbers of the rows to copy.
+// The numbers of the rows to copy. The loop is over the numbers, since of a row nothing else is asked.
 pub(crate) fn select<O: Order>(order: &O, rows: &[Row], list: &mut Vec<usize>)
     requires { (length rows.now ≤ most_rows) × (most_rows ≤ vec_capacity list.old) }
     ensures room { most_rows ≤ vec_capacity list.new }

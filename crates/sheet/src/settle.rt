@@ -1,26 +1,25 @@
 // Reducing a polynomial by the rows of a sheet, and appending what is left of it: what add and step have in common.
-ghost use Rattle.std.specs.Prelude.{◌≡◌, ℕ};
-ghost use Rattle.monomial.specs.Monomial.{width};
-ghost use Rattle.monomial.specs.Division.{Within};
-ghost use Rattle.polynomial.specs.Check.{Acceptable};
-ghost use Rattle.involutive.specs.Reduction.{refuse};
+ghost use Rattle.std.specs.Prelude.{◌≡◌, ℕ, ◌≤◌, length, MatchResult};
+ghost use Rattle.monomial.specs.Division.{Split};
+ghost use Rattle.polynomial.specs.Check.{Acceptable, most_terms};
+ghost use Rattle.involutive.specs.Reduction.{Reduces, refuse};
 ghost use Rattle.calls.specs.Told.{told};
-ghost use Rattle.reduction.specs.Table.{setting, SoundTable};
+ghost use Rattle.reduction.specs.Table.{setting, table_of, SoundTable};
 ghost use Rattle.reduction.specs.Reducing.{number};
 ghost use Rattle.sheet.specs.Marks.{rows_of, state_of};
-ghost use Rattle.sheet.specs.Settling.{Settles, UnlessAppended};
+ghost use Rattle.sheet.specs.Settling.{outcome, Settles, UnlessAppended};
 
-use crate::append::append;
 use crate::marks::Marks;
-use crate::table::Table;
+use crate::sheet::Sheet;
 use calls::refusal::Refusal;
 use field::Field;
 use monomial::division::Division;
 use monomial::order::Order;
 use polynomial::check::MOST_TERMS;
-use reduction::buffer::Buffer;
-use reduction::reduce::reduce_within;
+use polynomial::ring::Ring;
+use reduction::reduce::Work;
 use reduction::refusal::{Denied, Reason};
+use reduction::table::Row;
 
 // What became of a polynomial that was reduced.
 #[derive(Clone, Copy)]
@@ -31,15 +30,8 @@ pub(crate) enum Settled {
     Appended,
 }
 
-// The buffers that reducing needs: what is still to be reduced, what is done, and one for the differences.
-#[derive(Drop)]
-pub(crate) struct Work {
-    pub(crate) rest: Buffer,
-    pub(crate) done: Buffer,
-    pub(crate) spare: Buffer,
-}
-
-pub(crate) fn refusal_of(denied: Denied) -> Refusal
+// No `From`: each of the two types belongs to another crate.
+fn refusal_of(denied: Denied) -> Refusal
     ensures { told result ≡ refuse (number denied.reason) denied.row }
 {
     match denied.reason {
@@ -48,38 +40,39 @@ pub(crate) fn refusal_of(denied: Denied) -> Refusal
     }
 }
 
-// Reduces what `work.rest` holds by the rows, and appends what is left. A new row clears all marks.
-pub(crate) fn settle<F: Field, O: Order, D: Division>(
-    field: &F,
-    order: &O,
-    division: &D,
-    table: &mut Table,
-    marks: &mut Marks,
+// Reduces what `work.rest` holds by the rows, into `work.done`, with room for that many terms.
+pub(crate) fn reduce<F: Field, O: Order>(
+    ring: &Ring<F, O>,
+    rows: &[Row],
+    room: usize,
     work: &mut Work,
-) -> Result<Settled, Refusal>
-    ensures kept { UnlessAppended result ((table.new.rows.items ≡ table.old.rows.items) × (marks.new ≡ marks.old)) }
-    ensures settles { (n : ℕ) → Within n width → SoundTable (setting (F.Field.meaning field.now) (O.Order.meaning order.now) (D.Division.meaning division.now) n) table.old.rows.items → Acceptable (F.Field.meaning field.now) (O.Order.meaning order.now) n work.old.rest.terms.items → Settles (setting (F.Field.meaning field.now) (O.Order.meaning order.now) (D.Division.meaning division.now) n) (state_of table.old.rows.items (rows_of marks.old)) work.old.rest.terms.items result (state_of table.new.rows.items (rows_of marks.new)) × SoundTable (setting (F.Field.meaning field.now) (O.Order.meaning order.now) (D.Division.meaning division.now) n) table.new.rows.items }
+) -> Result<(), Refusal>
+    ensures { (D : Split) (n : ℕ) → SoundTable (setting (F.Field.meaning ring.now.field) (O.Order.meaning ring.now.order) D n) rows.now → Acceptable (F.Field.meaning ring.now.field) (O.Order.meaning ring.now.order) n work.old.rest.terms.items → room ≤ most_terms → length work.old.rest.terms.items ≤ room → Reduces (F.Field.meaning ring.now.field) (O.Order.meaning ring.now.order) D n (table_of rows.now) room work.old.rest.terms.items (outcome result work.new.done.terms.items) }
 {
-    match reduce_within(
-        field,
-        order,
-        table.rows.as_slice(),
-        MOST_TERMS,
-        &mut work.rest,
-        &mut work.done,
-        &mut work.spare,
-    ) {
-        Err(denied) => Err(refusal_of(denied)),
-        Ok(()) => {
-            let left = work.done.terms.as_slice();
-            if left.is_empty() {
-                return Ok(Settled::Nothing);
-            }
-            if !append(field, division, table, left) {
-                return Err(Refusal::Full);
-            }
-            *marks = Marks::none();
-            Ok(Settled::Appended)
+    work.reduce_within(ring, rows, room).map_err(refusal_of)
+}
+
+impl<F: Field, O: Order, D: Division> Sheet<F, O, D> {
+    // Reduces what `work.rest` holds by the rows, and appends what is left. A new row clears all marks.
+    pub(crate) fn settle(&mut self) -> Result<Settled, Refusal>
+        requires { Acceptable (F.Field.meaning self.old.ring.field) (O.Order.meaning self.old.ring.order) self.old.ring.variables self.old.work.rest.terms.items }
+        ensures setting { (self.new.ring ≡ self.old.ring) × (self.new.division ≡ self.old.division) }
+        ensures kept { UnlessAppended result ((self.new.table.rows.items ≡ self.old.table.rows.items) × (self.new.marks ≡ self.old.marks)) }
+        ensures settles { Settles (setting (F.Field.meaning self.old.ring.field) (O.Order.meaning self.old.ring.order) (D.Division.meaning self.old.division) self.old.ring.variables) (state_of self.old.table.rows.items (rows_of self.old.marks)) self.old.work.rest.terms.items result (state_of self.new.table.rows.items (rows_of self.new.marks)) }
+    {
+        reduce(
+            &self.ring,
+            self.table.rows.as_slice(),
+            MOST_TERMS,
+            &mut self.work,
+        )?;
+        let done = &self.work.done;
+        let left = done.terms.as_slice();
+        if left.is_empty() {
+            return Ok(Settled::Nothing);
         }
+        self.table.append(&self.ring.field, &self.division, left)?;
+        self.marks = Marks::none();
+        Ok(Settled::Appended)
     }
 }

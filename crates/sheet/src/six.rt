@@ -2,12 +2,10 @@
 ghost use Rattle.reduction.specs.Table.{setting as setting_of};
 ghost use Rattle.sheet.specs.Marks.{rows_of, state_of};
 
-use crate::choose::{choose, is_closed};
 use crate::copy::write_fair_copy;
 use crate::put::put;
-use crate::settle::refusal_of;
-use crate::sheet::Sheet;
-use crate::treat::treat;
+use crate::settle::reduce;
+use crate::sheet::{Sheet, take};
 use crate::unit::leads_with_one;
 use calls::answer::{Copied, Step};
 use calls::calls::Calls;
@@ -15,16 +13,15 @@ use calls::refusal::Refusal;
 use field::Field;
 use monomial::division::Division;
 use monomial::order::Order;
-use polynomial::check::{MOST_TERMS, check};
+use polynomial::check::MOST_TERMS;
 use polynomial::term::Term;
-use reduction::reduce::reduce_within;
 
 impl<F: Field, O: Order, D: Division> Calls for Sheet<F, O, D> {
-    ghost setting = { λ x. setting_of (F.Field.meaning x.field) (O.Order.meaning x.order) (D.Division.meaning x.division) x.variables };
+    ghost setting = { λ x. setting_of (F.Field.meaning x.ring.field) (O.Order.meaning x.ring.order) (D.Division.meaning x.division) x.ring.variables };
 
     ghost state = { λ x. state_of x.table.rows.items (rows_of x.marks) };
 
-    ghost lawful = { λ x. record { field = F.Field.laws x.field; order = O.Order.laws x.order; division = D.Division.laws x.division; variables = (x.some, x.few) } };
+    ghost lawful = { λ x. record { field = F.Field.laws x.ring.field; order = O.Order.laws x.ring.order; division = D.Division.laws x.division; variables = (x.some, x.few) } };
 
     // The sheet's own method of this name does it.
     fn add(&mut self, f: &[Term]) -> Result<usize, Refusal> {
@@ -33,53 +30,25 @@ impl<F: Field, O: Order, D: Division> Calls for Sheet<F, O, D> {
 
     // Treats the smallest unmarked pair, where there is one.
     fn step(&mut self) -> Result<Step, Refusal> {
-        match choose(
-            &self.order,
-            self.variables,
-            self.table.rows.as_slice(),
-            &self.marks,
-        ) {
+        match self.choose() {
             None => Ok(Step::Closed),
-            Some(pick) => treat(
-                &self.field,
-                &self.order,
-                &self.division,
-                &mut self.table,
-                &mut self.marks,
-                &mut self.work,
-                pick,
-            ),
+            Some(pick) => self.treat(pick),
         }
     }
 
     // The remainder of a polynomial, on a closed sheet.
     fn remainder(&mut self, f: &[Term], out: &mut [Term]) -> Result<usize, Refusal> {
-        if !is_closed(
-            &self.order,
-            self.variables,
-            self.table.rows.as_slice(),
-            &self.marks,
-        ) {
+        if !self.is_closed() {
             return Err(Refusal::NotClosed);
         }
-        match check(&self.field, &self.order, self.variables, f) {
-            Err(unfit) => Err(Refusal::Polynomial(unfit)),
-            Ok(()) => {
-                let _ = self.work.rest.load(f);
-                match reduce_within(
-                    &self.field,
-                    &self.order,
-                    self.table.rows.as_slice(),
-                    MOST_TERMS,
-                    &mut self.work.rest,
-                    &mut self.work.done,
-                    &mut self.work.spare,
-                ) {
-                    Err(denied) => Err(refusal_of(denied)),
-                    Ok(()) => put(self.work.done.terms.as_slice(), out),
-                }
-            }
-        }
+        take(&self.ring, f, &mut self.work)?;
+        reduce(
+            &self.ring,
+            self.table.rows.as_slice(),
+            MOST_TERMS,
+            &mut self.work,
+        )?;
+        put(self.work.done.terms.as_slice(), out)
     }
 
     // One row.
@@ -92,17 +61,11 @@ impl<F: Field, O: Order, D: Division> Calls for Sheet<F, O, D> {
 
     // The bytes of the fair copy of a closed sheet.
     fn fair_copy(&mut self, out: &mut [u8]) -> Result<Copied, Refusal> {
-        if !is_closed(
-            &self.order,
-            self.variables,
-            self.table.rows.as_slice(),
-            &self.marks,
-        ) {
+        if !self.is_closed() {
             return Err(Refusal::NotClosed);
         }
         write_fair_copy(
-            &self.field,
-            &self.order,
+            &self.ring,
             self.table.rows.as_slice(),
             &mut self.work,
             &mut self.copy,
@@ -112,12 +75,7 @@ impl<F: Field, O: Order, D: Division> Calls for Sheet<F, O, D> {
 
     // 1, impossible, where 1 lies in the ideal: then a row of a closed sheet leads with 1.
     fn verdict(&self) -> Result<usize, Refusal> {
-        if !is_closed(
-            &self.order,
-            self.variables,
-            self.table.rows.as_slice(),
-            &self.marks,
-        ) {
+        if !self.is_closed() {
             return Err(Refusal::NotClosed);
         }
         if leads_with_one(self.table.rows.as_slice()) {

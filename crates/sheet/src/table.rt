@@ -21,19 +21,21 @@ pub(crate) struct Table {
     ghost list: { 32 ≤ vec_capacity leaders },
 }
 
-// A table without rows, or want of memory.
-pub(crate) fn new_table(heap: Global) -> Result<Table, AllocError>
-    ensures { IfOk result (λ t. t.rows.items ≡ []) }
-{
-    let rows = Vec::with_capacity(heap, MOST_ROWS)?;
-    let leaders = Vec::with_capacity(heap, MOST_ROWS)?;
-    let mut spare = Vec::with_capacity(heap, MOST_ROWS)?;
-    for i in 0..MOST_ROWS {
-        spare.push_reserved(Buffer::new(heap)?);
+impl Table {
+    // A table without rows, or want of memory.
+    pub(crate) fn new(heap: Global) -> Result<Table, AllocError>
+        ensures { IfOk result (λ t. t.rows.items ≡ []) }
+    {
+        let rows = Vec::with_capacity(heap, MOST_ROWS)?;
+        let leaders = Vec::with_capacity(heap, MOST_ROWS)?;
+        let mut spare = Vec::with_capacity(heap, MOST_ROWS)?;
+        for _ in 0..MOST_ROWS {
+            spare.push_reserved(Buffer::new(heap)?);
+        }
+        Ok(Table {
+            rows,
+            spare,
+            leaders,
+        })
     }
-    Ok(Table {
-        rows,
-        spare,
-        leaders,
-    })
 }

@@ -2,19 +2,12 @@
 ghost use Rattle.std.specs.Prelude.{◌≡◌};
 ghost use Rattle.sheet.specs.Units.{has_unit};
 
-use monomial::{Monomial, WIDTH};
+use monomial::Monomial;
 use reduction::table::Row;
 
 pub(crate) fn leads_with_one(rows: &[Row]) -> bool
     ensures { result ≡ has_unit rows.now }
 {
-    let unit = Monomial {
-        exponents: [0; WIDTH],
-    };
-    for row in rows {
-        if row.lead.monomial.is_same(&unit) {
-            return true;
-        }
-    }
-    false
+    rows.iter()
+        .any(|row| row.lead.monomial.is_same(&Monomial::ONE))
 }

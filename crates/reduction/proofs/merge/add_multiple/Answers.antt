@@ -1,61 +1,113 @@
-use Rattle.std.proofs.Common.{ℕ, ◌+◌, ◌-◌, ◌<◌, ◌≤◌, [], ◌++◌, map, length, take, drop, vec_items, sym, ap, subst, arith, rules}
+use Rattle.std.proofs.Common.{◌≡◌, ℕ, suc, ◌+◌, ◌<◌, ◌≤◌, [], ◌∷◌, ◌++◌, map, length, get_or, take, drop, vec_items, sym, ap, ◌∙◌, subst, add-one, length-append, arith, rules}
 use Rattle.std.proofs.lemmas.List.{take_rest}
-use Rattle.polynomial.specs.Polynomial.{Poly, term}
-use Rattle.reduction.specs.Merging.{Sums, image}
-use Rattle.reduction.proofs.AddingUp.{part_fits, term_fits, last, long_part, long_put, after_put, after_none}
+use Rattle.polynomial.specs.Polynomial.{Poly, term, exponents}
+use Rattle.reduction.specs.Merging.{Sums, image, code_sum}
+use Rattle.reduction.proofs.Meeting.{copied, met_alone, met_gone, met_both}
+use Rattle.reduction.proofs.AddingUp.{failed, behind, closed, turned, turned_long}
 use Rattle.reduction.proofs.merge.add_multiple.Goals as goal
-use Rattle.reduction.proofs.merge.add_multiple.Goals.{in-Some+else-not-push, in_default}
+use Rattle.reduction.proofs.merge.add_multiple.Goals.{in-Ok+in_ok-extend-in-Ok, in-Some+in_ok-push-in-Ok, in_default, in-Err+in_ok-extend-in-Err+in_ok-push-in-Err}
 
-pub returns-then-not-extend : goal.returns-then-not-extend
-returns-then-not-extend g c =
-    let F = g.F.Field.meaning c.args.field.now in
-    let O = g.O.Order.meaning c.args.order.now in
-    let l : c.args.room < length (vec_items c.loop-term.out.terms) + length (take (c.find_place-place.result.at - c.loop-term.next) (drop c.loop-term.next c.args.terms.now)) = search rules in
-    long_part F O (image F c.args.coefficient c.args.shift.now.exponents) c.args.terms.now c.args.row.now c.loop-term.next c.loop-term.term-index (vec_items c.loop-term.out.terms) c.loop-term.invariant.2
-    c.image-other.result (term 0 []) (omega arith) c.image-other.ensures c.find_place-place.result.at (take (c.find_place-place.result.at - c.loop-term.next) (drop c.loop-term.next c.args.terms.now)) (c.find_place-place.ensures.turns F) c.args.room l
+pub returns-in_err-extend-in-Ok : goal.returns-in_err-extend-in-Ok
+returns-in_err-extend-in-Ok g c =
+    let F = g.F.Field.meaning c.args.ring.now.field in
+    let O = g.O.Order.meaning c.args.ring.now.order in
+    let rest = c.loop-term.rest.now in
+    let s = c.image-other.result in
+    let k = c.in-Ok.at in
+    let place = c.in-Ok.ensures in
+    let e = c.in_err-extend-in-Ok.ensures in
+    failed _ c.from_residual.result c.from_residual.ensures.0
+    (turned_long F O (image F c.args.factor.now.coefficient (exponents c.args.factor.now)) c.args.terms.now c.args.row.now rest c.loop-term.term-index (vec_items c.loop-term.out.terms) c.loop-term.invariant.1 s (term 0 []) (omega arith) c.image-other.ensures
+    (take k rest) (drop k rest) (λ f. s ∷ f) (copied F O s rest k place.1 (omega (arith, place.0))) c.args.room e.0)
 
-pub returns-then-not-push : goal.returns-then-not-push
-returns-then-not-push g c =
-    let F = g.F.Field.meaning c.args.field.now in
-    let O = g.O.Order.meaning c.args.order.now in
-    let l : c.args.room ≤ length (vec_items c.extend.new.self.terms) = search rules in
-    long_put F O (image F c.args.coefficient c.args.shift.now.exponents) c.args.terms.now c.args.row.now c.loop-term.next c.loop-term.term-index (vec_items c.loop-term.out.terms) c.loop-term.invariant.2
-    c.image-other.result (term 0 []) (omega arith) c.image-other.ensures c.find_place-place.result.at (take (c.find_place-place.result.at - c.loop-term.next) (drop c.loop-term.next c.args.terms.now)) (c.find_place-place.ensures.turns F)
-    c.meet-met.result.next c.meet-met.result.written (c.meet-met.ensures.turns O c.find_place-place.ensures.next) (vec_items c.extend.new.self.terms) c.if-not-extend.ensures.1 c.in-Some.sum c.args.room c.in-Some.is l
+pub returns-in_err-extend-in-Err : goal.returns-in_err-extend-in-Err
+returns-in_err-extend-in-Err g c =
+    let F = g.F.Field.meaning c.args.ring.now.field in
+    let O = g.O.Order.meaning c.args.ring.now.order in
+    let rest = c.loop-term.rest.now in
+    let s = c.image-other.result in
+    let k = c.in-Err.at in
+    let place = c.in-Err.ensures in
+    let e = c.in_err-extend-in-Err.ensures in
+    failed _ c.from_residual-in_err-extend-in-Err.result c.from_residual-in_err-extend-in-Err.ensures.0
+    (turned_long F O (image F c.args.factor.now.coefficient (exponents c.args.factor.now)) c.args.terms.now c.args.row.now rest c.loop-term.term-index (vec_items c.loop-term.out.terms) c.loop-term.invariant.1 s (term 0 []) (omega arith) c.image-other.ensures
+    (take k rest) (drop k rest) (λ f. s ∷ f) (copied F O s rest k place.1 place.0) c.args.room e.0)
 
-pub loop-term-preserved : goal.loop-term-preserved
-loop-term-preserved g c =
-    let F = g.F.Field.meaning c.args.field.now in
-    let O = g.O.Order.meaning c.args.order.now in
-    let I = image F c.args.coefficient c.args.shift.now.exponents in
-    let h = c.args.terms.now in
-    let row = c.args.row.now in
-    let out = vec_items c.loop-term.out.terms in
-    let met = c.meet-met.result in
-    let more = c.meet-met.ensures.turns O c.find_place-place.ensures.next in
-    let within = part_fits out (take (c.find_place-place.result.at - c.loop-term.next) (drop c.loop-term.next h)) (vec_items c.extend.new.self.terms) c.args.room c.if-not-extend.ensures.0 c.if-not-extend.ensures.1 in
-    elim c.match-met.branch [
-      | in-Some+else-not-push w ↦
-          let is = ap (λ b. vec_items b.terms) w.out-is in (
-            omega (arith, w.next-is, c.meet-met.ensures.range),
-            subst (λ (x : Poly). length x ≤ c.args.room) (sym is) (term_fits (vec_items c.extend.new.self.terms) w.in-Some.sum (vec_items w.push.new.self.terms) c.args.room w.if-not-push.ensures.0 w.if-not-push.ensures.1),
-            λ r m. subst (λ (x : Poly). Sums F O h (map I row) (x ++ r)) (sym is)
-                (after_put F O I h row c.loop-term.next c.loop-term.term-index out c.loop-term.invariant.2 c.image-other.result (term 0 []) (omega arith) c.image-other.ensures c.find_place-place.result.at (take (c.find_place-place.result.at - c.loop-term.next) (drop c.loop-term.next c.args.terms.now)) (c.find_place-place.ensures.turns F)
-                met.next met.written more (vec_items c.extend.new.self.terms) c.if-not-extend.ensures.1 w.in-Some.sum (vec_items w.push.new.self.terms) w.in-Some.is w.if-not-push.ensures.1 r (subst (λ (k : ℕ). Sums F O (drop k h) (map I (drop (c.loop-term.term-index + 1) row)) r) w.next-is m)),
-          )
-      | in_default w ↦
-          let is = ap (λ b. vec_items b.terms) w.out-is in (
-            omega (arith, w.next-is, c.meet-met.ensures.range),
-            subst (λ (x : Poly). length x ≤ c.args.room) (sym is) within,
-            λ r m. subst (λ (x : Poly). Sums F O h (map I row) (x ++ r)) (sym is)
-                (after_none F O I h row c.loop-term.next c.loop-term.term-index out c.loop-term.invariant.2 c.image-other.result (term 0 []) (omega arith) c.image-other.ensures c.find_place-place.result.at (take (c.find_place-place.result.at - c.loop-term.next) (drop c.loop-term.next c.args.terms.now)) (c.find_place-place.ensures.turns F)
-                met.next met.written more (vec_items c.extend.new.self.terms) c.if-not-extend.ensures.1 w.in_default.is r (subst (λ (k : ℕ). Sums F O (drop k h) (map I (drop (c.loop-term.term-index + 1) row)) r) w.next-is m)),
-          )
-    ]
+pub returns-in_err-push-in-Err : goal.returns-in_err-push-in-Err
+returns-in_err-push-in-Err g c =
+    let F = g.F.Field.meaning c.args.ring.now.field in
+    let O = g.O.Order.meaning c.args.ring.now.order in
+    let rest = c.loop-term.rest.now in
+    let s = c.image-other.result in
+    let k = c.in-Err.at in
+    let place = c.in-Err.ensures in
+    let e = c.in_ok-extend-in-Err.ensures in
+    let d = c.in_err-push-in-Err.ensures in
+    failed _ c.from_residual-in_err-push-in-Err.result c.from_residual-in_err-push-in-Err.ensures.0
+    (turned_long F O (image F c.args.factor.now.coefficient (exponents c.args.factor.now)) c.args.terms.now c.args.row.now rest c.loop-term.term-index (vec_items c.loop-term.out.terms) c.loop-term.invariant.1 s (term 0 []) (omega arith) c.image-other.ensures
+    (take k rest ++ s ∷ []) (drop k rest) (λ f. f) (met_alone F O s rest k place.1 place.0 place.2) c.args.room (omega (arith, d.0, ap length e.1, length-append (vec_items c.loop-term.out.terms) (take k rest), length-append (take k rest) (s ∷ []))))
+
+pub returns-in_err-push-in-Ok : goal.returns-in_err-push-in-Ok
+returns-in_err-push-in-Ok g c =
+    let F = g.F.Field.meaning c.args.ring.now.field in
+    let O = g.O.Order.meaning c.args.ring.now.order in
+    let rest = c.loop-term.rest.now in
+    let s = c.image-other.result in
+    let k = c.in-Ok.at in
+    let place = c.in-Ok.ensures in
+    let e = c.in_ok-extend-in-Ok.ensures in
+    let d = c.in_err-push-in-Ok.ensures in
+    failed _ c.from_residual-in_err-push-in-Ok.result c.from_residual-in_err-push-in-Ok.ensures.0
+    (turned_long F O (image F c.args.factor.now.coefficient (exponents c.args.factor.now)) c.args.terms.now c.args.row.now rest c.loop-term.term-index (vec_items c.loop-term.out.terms) c.loop-term.invariant.1 s (term 0 []) (omega arith) c.image-other.ensures
+    _ _ (λ f. f) (met_both F O s rest k place.1 place.0 place.2 (term 0 []) c.in-Some.ensures.0) c.args.room (omega (arith, d.0, ap length e.1, length-append (vec_items c.loop-term.out.terms) (take k rest), length-append (take k rest) (term (code_sum F (get_or rest k (term 0 [])).coefficient s.coefficient) (exponents (get_or rest k (term 0 []))) ∷ []))))
 
 pub returns : goal.returns
 returns g c =
-    let F = g.F.Field.meaning c.args.field.now in
-    let O = g.O.Order.meaning c.args.order.now in
+    let F = g.F.Field.meaning c.args.ring.now.field in
+    closed F (g.O.Order.meaning c.args.ring.now.order) (image F c.args.factor.now.coefficient (exponents c.args.factor.now)) c.args.terms.now c.args.row.now c.loop-term.rest.now c.loop-term.term-index (vec_items c.loop-term.out.terms) c.loop-term.invariant.1
+    c.loop-term-test.false c.args.room c.extend-2.result (vec_items c.extend-2.new.self.terms) c.extend-2.ensures
+
+pub loop-term-preserved : goal.loop-term-preserved
+loop-term-preserved g c =
+    let F = g.F.Field.meaning c.args.ring.now.field in
+    let O = g.O.Order.meaning c.args.ring.now.order in
+    let I = image F c.args.factor.now.coefficient (exponents c.args.factor.now) in
     let h = c.args.terms.now in
-    last F O (image F c.args.coefficient c.args.shift.now.exponents) h c.args.row.now c.loop-term.next c.loop-term.term-index (vec_items c.loop-term.out.terms) c.loop-term.invariant.2 c.loop-term-test.false c.args.room c.extend-2.result (take (length h - c.loop-term.next) (drop c.loop-term.next h)) (vec_items c.extend-2.new.self.terms) (take_rest h c.loop-term.next) c.extend-2.ensures.0 c.extend-2.ensures.1
+    let row = c.args.row.now in
+    let out = vec_items c.loop-term.out.terms in
+    let rest = c.loop-term.rest.now in
+    let s = c.image-other.result in
+    elim c.match-find_place.branch [
+      | in-Ok+in_ok-extend-in-Ok w ↦
+          let k = w.in-Ok.at in
+          let place = w.in-Ok.ensures in
+          let e = w.in_ok-extend-in-Ok.ensures in
+          let left : c.match-find_place.rest.now ≡ drop (suc k) rest = ap (λ b. b.now) w.rest-is ∙ take_rest rest (k + 1) ∙ ap (λ i. drop i rest) (add-one k) in
+          elim w.match-join.branch [
+            | in-Some+in_ok-push-in-Ok v ↦
+                let d = v.in_ok-push-in-Ok.ensures in
+                let j = v.in-Some.ensures in
+                let is = ap (λ b. vec_items b.terms) (w.out-is ∙ v.out-is) in (
+                  omega (arith, d.0, ap length d.1, ap length is, length-append (vec_items w.extend.new.self.terms) (v.in-Some.sum ∷ [])),
+                  λ r m. turned F O I h row rest c.loop-term.term-index out c.loop-term.invariant.1 s (term 0 []) (omega arith) c.image-other.ensures
+                      _ _ (λ f. f) (met_both F O s rest k place.1 place.0 place.2 (term 0 []) j.0) _ (is ∙ behind out _ _ _ _ e.1 (d.1 ∙ ap (λ x. vec_items w.extend.new.self.terms ++ x ∷ []) j.1)) r (subst (λ x. Sums F O x (map I (drop (c.loop-term.term-index + 1) row)) r) left m),
+                )
+            | in_default v ↦
+                let is = ap (λ b. vec_items b.terms) (w.out-is ∙ v.out-is) in (
+                  omega (arith, e.0, ap length e.1, ap length is, length-append out (take k rest)),
+                  λ r m. turned F O I h row rest c.loop-term.term-index out c.loop-term.invariant.1 s (term 0 []) (omega arith) c.image-other.ensures
+                      (take k rest) (drop (suc k) rest) (λ f. f) (met_gone F O s rest k place.1 place.0 place.2 (term 0 []) v.in_default.ensures) _ (is ∙ e.1) r (subst (λ x. Sums F O x (map I (drop (c.loop-term.term-index + 1) row)) r) left m),
+                )
+          ]
+      | in-Err+in_ok-extend-in-Err+in_ok-push-in-Err w ↦
+          let k = w.in-Err.at in
+          let place = w.in-Err.ensures in
+          let e = w.in_ok-extend-in-Err.ensures in
+          let d = w.in_ok-push-in-Err.ensures in
+          let is = ap (λ b. vec_items b.terms) w.out-is in
+          let left : c.match-find_place.rest.now ≡ drop k rest = ap (λ b. b.now) w.rest-is ∙ take_rest rest k in (
+            omega (arith, d.0, ap length d.1, ap length is, length-append (vec_items w.extend-in-Err.new.self.terms) (s ∷ [])),
+            λ r m. turned F O I h row rest c.loop-term.term-index out c.loop-term.invariant.1 s (term 0 []) (omega arith) c.image-other.ensures
+                (take k rest ++ s ∷ []) (drop k rest) (λ f. f) (met_alone F O s rest k place.1 place.0 place.2) _ (is ∙ behind out (take k rest) (s ∷ []) _ _ e.1 d.1) r (subst (λ x. Sums F O x (map I (drop (c.loop-term.term-index + 1) row)) r) left m),
+          )
+    ]

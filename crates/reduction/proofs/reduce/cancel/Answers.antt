@@ -9,10 +9,10 @@ use Rattle.reduction.proofs.reduce.cancel.Goals as goal
 
 pub returns : goal.returns
 returns g c n v w p b i =
-    let F = g.F.Field.meaning c.args.field.now in
-    let O = g.O.Order.meaning c.args.order.now in
+    let F = g.F.Field.meaning c.args.ring.now.field in
+    let O = g.O.Order.meaning c.args.ring.now.order in
     let tail = take_rest c.as_slice.result.now 1 ∙ ap (drop 1) c.as_slice.ensures.value in
-    let shift = c.quotient-shift.ensures in
+    let shift = c.quotient.ensures in
     subst (λ (a : List ℕ). Subtracted F O n (min c.args.room 40) c.args.behind.now (scaled F c.args.term.now.coefficient a (drop 1 (terms_of c.args.row.now))) c.subtract.result (vec_items c.subtract.new.out.terms)) shift
-    (subst (λ (f : Poly). Subtracted F O n (min c.args.room 40) c.args.behind.now (scaled F c.args.term.now.coefficient c.quotient-shift.result.exponents f) c.subtract.result (vec_items c.subtract.new.out.terms)) tail
+    (subst (λ (f : Poly). Subtracted F O n (min c.args.room 40) c.args.behind.now (scaled F c.args.term.now.coefficient c.quotient.result.exponents f) c.subtract.result (vec_items c.subtract.new.out.terms)) tail
     (c.subtract.ensures n v (subst (Written F O n) (sym tail) w) p b (subst (In n) (sym shift) i)))

@@ -1,12 +1,16 @@
-use Rattle.std.proofs.Common.{sym, ◌∙◌, arith, rules}
-use Rattle.monomial.specs.Monomial.{Wide, quotient}
-use Rattle.monomial.specs.Places.{agree_all, at_quotient, length_quotient}
+use Rattle.std.proofs.Common.{◌-◌, get_or, rules}
+use borrow.Author.Tests.{tests}
+use Rattle.monomial.specs.Monomial.{Wide}
+use Rattle.monomial.specs.Places.{quotient_from_places}
+use Rattle.monomial.proofs.Filling.{filled}
 use Rattle.reduction.proofs.subtract.quotient.Goals as goal
 
 pub returns : goal.returns
 returns c =
     let m = c.args.m.now.exponents in
     let u = c.args.u.now.exponents in
+    let p = c.from_fn.result in
     let wm : Wide m = search rules in
     let wu : Wide u = search rules in
-    agree_all _ (quotient m u) (c.loop-i.invariant.0 ∙ sym (length_quotient m u (wm ∙ sym wu) ∙ wm)) (λ h l. c.loop-i.invariant.1 h (omega arith) ∙ sym (at_quotient m u (wm ∙ sym wu) h))
+    let wp : Wide p = search rules in
+    quotient_from_places m u p wm wu wp (filled _ _ p (λ i. get_or m i 0 - get_or u i 0) (λ i y q t. search (rules, tests)) 6 c.from_fn.ensures.items)

@@ -1,29 +1,42 @@
-use Rattle.std.proofs.Common.{◌≡◌, sym, arith}
+use Rattle.std.proofs.Common.{◌≡◌, min, Ok, Err, Result, vec_items, sym, ap, subst, arith}
+use Rattle.std.specs.Result.{IsErrAnd}
+use Rattle.polynomial.specs.Check.{most_terms}
+use Rattle.involutive.specs.Value.{scaled}
+use Rattle.reduction.specs.declared.refusal.Reason.{Reason}
+use Rattle.reduction.specs.declared.refusal.Reason.TheVariants.{Long}
+use Rattle.reduction.specs.Subtraction.{Subtracted}
+use Rattle.polynomial.specs.Polynomial.{exponents}
 use Rattle.reduction.specs.Merging.{code_negative}
 use Rattle.reduction.proofs.Multiples.{fits_yes, fits_no}
 use Rattle.reduction.proofs.Subtracting.{differs}
 use Rattle.reduction.proofs.subtract.subtract.Goals as goal
 
-pub returns-then-not-fits : goal.returns-then-not-fits
-returns-then-not-fits g c n v w p b i = fits_no (g.F.Field.meaning c.args.field.now) c.args.coefficient c.args.shift.now.exponents c.args.row.now (sym c.if-not-fits.ensures)
+too_long : (r : Result (Unit {0}) Reason) → IsErrAnd r (λ e. e ≡ Long) → r ≡ Err Long
+too_long (Ok u) h = absurd h
+too_long (Err e) h = ap Err h
 
-pub returns-then-add_multiple : goal.returns-then-add_multiple
-returns-then-add_multiple g c n v w p b i =
-    let F = g.F.Field.meaning c.args.field.now in
+pub returns-then-not-fits : goal.returns-then-not-fits
+returns-then-not-fits g c n v w p b i = fits_no (g.F.Field.meaning c.args.ring.now.field) c.args.factor.now.coefficient (exponents c.args.factor.now) c.args.row.now (sym c.if-not-fits.ensures)
+
+pub returns-in_err-add_multiple : goal.returns-in_err-add_multiple
+returns-in_err-add_multiple g c n v w p b i =
+    let F = g.F.Field.meaning c.args.ring.now.field in
+    let O = g.O.Order.meaning c.args.ring.now.order in
     let small = sym c.if-not-fits.ensures in
-    let negative : c.unwrap_or-negative.result ≡ code_negative F c.args.coefficient = cc (c.unwrap_or-negative.ensures, c.neg.ensures) in
-    let s = c.if-add_multiple.ensures in (
-      fits_yes F c.args.coefficient c.args.shift.now.exponents c.args.row.now small,
-      differs F (g.met.F.Field.laws c.args.field.now) (g.O.Order.meaning c.args.order.now) (g.met.O.Order.laws c.args.order.now) n _ _ _ _ v w p b i _ negative small s.0,
-      omega (arith, s.1, c.cap-most.ensures),
+    let negative : c.unwrap_or.result ≡ code_negative F c.args.factor.now.coefficient = cc (c.unwrap_or.ensures, c.neg.ensures) in
+    let s = c.in_err-add_multiple.ensures in
+    subst (λ r. Subtracted F O n (min c.args.room most_terms) c.args.terms.now (scaled F c.args.factor.now.coefficient (exponents c.args.factor.now) c.args.row.now) r (vec_items c.add_multiple.new.out.terms)) (sym (too_long c.from_residual.result c.from_residual.ensures.1)) (
+      fits_yes F c.args.factor.now.coefficient (exponents c.args.factor.now) c.args.row.now small,
+      (s.0, differs F (g.met.F.Field.laws c.args.ring.now.field) O (g.met.O.Order.laws c.args.ring.now.order) n _ _ _ _ v w p b i _ negative small s.1, omega (arith, s.2, c.min.ensures)),
     )
 
-pub returns-else-add_multiple : goal.returns-else-add_multiple
-returns-else-add_multiple g c n v w p b i =
-    let F = g.F.Field.meaning c.args.field.now in
+pub returns : goal.returns
+returns g c n v w p b i =
+    let F = g.F.Field.meaning c.args.ring.now.field in
     let small = sym c.if-not-fits.ensures in
-    let negative : c.unwrap_or-negative.result ≡ code_negative F c.args.coefficient = cc (c.unwrap_or-negative.ensures, c.neg.ensures) in
-    let s = c.if-add_multiple.ensures in (
-      fits_yes F c.args.coefficient c.args.shift.now.exponents c.args.row.now small,
-      (s.0, differs F (g.met.F.Field.laws c.args.field.now) (g.O.Order.meaning c.args.order.now) (g.met.O.Order.laws c.args.order.now) n _ _ _ _ v w p b i _ negative small s.1, omega (arith, s.2, c.cap-most.ensures)),
+    let negative : c.unwrap_or.result ≡ code_negative F c.args.factor.now.coefficient = cc (c.unwrap_or.ensures, c.neg.ensures) in
+    let s = c.in_ok-add_multiple.ensures in (
+      fits_yes F c.args.factor.now.coefficient (exponents c.args.factor.now) c.args.row.now small,
+      differs F (g.met.F.Field.laws c.args.ring.now.field) (g.O.Order.meaning c.args.ring.now.order) (g.met.O.Order.laws c.args.ring.now.order) n _ _ _ _ v w p b i _ negative small s.0,
+      omega (arith, s.1, c.min.ensures),
     )

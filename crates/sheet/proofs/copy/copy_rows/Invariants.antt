@@ -6,5 +6,5 @@ use Rattle.sheet.specs.Copying.{row_room, copy_room}
 use Rattle.sheet.proofs.FairCopying.{Progress}
 use Rattle.sheet.proofs.copy.copy_rows.Given as goal
 
-abbrev pub invariant-loop-i : goal.invariant-loop-i
-invariant-loop-i g l = (vec_len l.bytes ≤ row_room * l.i) × (copy_room ≤ vec_capacity l.bytes) × ((D : Split) (n : ℕ) (xs : List (List Bool)) → SoundTable (setting (g.F.Field.meaning l.field) (g.O.Order.meaning l.order) D n) l.rows → Progress (setting (g.F.Field.meaning l.field) (g.O.Order.meaning l.order) D n) (state_of l.rows xs) l.list l.i (vec_items l.bytes))
+abbrev pub invariant-loop-k : goal.invariant-loop-k
+invariant-loop-k g l = (vec_len l.bytes ≤ row_room * l.k-index) × (copy_room ≤ vec_capacity l.bytes) × ((D : Split) (n : ℕ) (xs : List (List Bool)) → SoundTable (setting (g.F.Field.meaning l.ring.field) (g.O.Order.meaning l.ring.order) D n) l.rows → Progress (setting (g.F.Field.meaning l.ring.field) (g.O.Order.meaning l.ring.order) D n) (state_of l.rows xs) l.list l.k-index (vec_items l.bytes))

@@ -6,31 +6,34 @@ use Rattle.sheet.proofs.Selections.{selected}
 use Rattle.sheet.proofs.FairCopying.{fair_denied, fair_copied, delivered_within}
 use Rattle.sheet.proofs.copy.write_fair_copy.Goals as goal
 
-pub returns-in-Err : goal.returns-in-Err
-returns-in-Err g c = record {
-  within = refl;
-  answer = λ D n xs I A C.
-      let S = setting (g.F.Field.meaning c.args.field.now) (g.O.Order.meaning c.args.order.now) D n in
-      let rows = c.args.rows.now in
-      let s = state_of rows xs in
-      let ks = vec_items c.select.new.list in
-      let bytes = vec_items c.copy_rows.new.bytes in
-      let P = selected S rows xs I A ks c.select.ensures.picks c.select.ensures.rises in
-      fair_denied {S = S} {s = s} ks bytes c.args.out.now c.in-Err.refusal C P (subst (λ (x : List ℕ). RowsCopied S s x (Err c.in-Err.refusal) bytes) c.as_slice.ensures.value (c.in-Err.ensures.copies D n xs I));
-}
+pub returns-in_err-copy_rows : goal.returns-in_err-copy_rows
+returns-in_err-copy_rows g c =
+    let d = c.in_err-copy_rows.field-0.0 in
+    let z : c.from_residual.result ≡ Err d = search rules in
+    rw z (record {
+      within = refl;
+      answer = λ D n xs I A C.
+          let S = setting (g.F.Field.meaning c.args.ring.now.field) (g.O.Order.meaning c.args.ring.now.order) D n in
+          let rows = c.args.rows.now in
+          let s = state_of rows xs in
+          let ks = vec_items c.select.new.list in
+          let bytes = vec_items c.copy_rows.new.bytes in
+          let P = selected S rows xs I A ks c.select.ensures.picks c.select.ensures.rises in
+          fair_denied {S = S} {s = s} ks bytes c.args.out.now d C P (subst (λ (x : List ℕ). RowsCopied S s x (Err d) bytes) c.as_slice.ensures.value (c.in_err-copy_rows.ensures.copies D n xs I));
+    })
 
-pub returns-in-Ok : goal.returns-in-Ok
-returns-in-Ok g c =
+pub returns : goal.returns
+returns g c =
     let bytes = vec_items c.copy_rows.new.bytes in
-    let W : Delivered c.len.result bytes c.args.out.now c.write_copy.result c.write_copy.new.out = subst (λ (x : List ℕ). Delivered c.len.result x c.args.out.now c.write_copy.result c.write_copy.new.out) c.as_slice-in-Ok.ensures.value c.write_copy.ensures in
+    let W : Delivered c.len.result bytes c.args.out.now c.write_copy.result c.write_copy.new.out = subst (λ (x : List ℕ). Delivered c.len.result x c.args.out.now c.write_copy.result c.write_copy.new.out) c.as_slice-2.ensures.value c.write_copy.ensures in
     record {
       within = delivered_within c.len.result bytes c.args.out.now c.write_copy.new.out c.write_copy.result W;
       answer = λ D n xs I A C.
-          let S = setting (g.F.Field.meaning c.args.field.now) (g.O.Order.meaning c.args.order.now) D n in
+          let S = setting (g.F.Field.meaning c.args.ring.now.field) (g.O.Order.meaning c.args.ring.now.order) D n in
           let rows = c.args.rows.now in
           let s = state_of rows xs in
           let ks = vec_items c.select.new.list in
           let P = selected S rows xs I A ks c.select.ensures.picks c.select.ensures.rises in
           let m : c.len.result ≡ length ks = search rules in
-          fair_copied {S = S} {s = s} ks bytes c.args.out.now c.write_copy.new.out c.len.result c.write_copy.result C P (subst (λ (x : List ℕ). RowsCopied S s x (Ok tt) bytes) c.as_slice.ensures.value (c.in-Ok.ensures.copies D n xs I)) m W;
+          fair_copied {S = S} {s = s} ks bytes c.args.out.now c.write_copy.new.out c.len.result c.write_copy.result C P (subst (λ (x : List ℕ). RowsCopied S s x (Ok tt) bytes) c.as_slice.ensures.value (c.in_ok-copy_rows.ensures.copies D n xs I)) m W;
     }

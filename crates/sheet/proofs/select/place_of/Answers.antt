@@ -9,20 +9,14 @@ use Rattle.sheet.proofs.select.place_of.Goals as goal
 pub compare_leads-requires : goal.compare_leads-requires
 compare_leads-requires g c = (c.requires.0 _ (entry_member 0 c.args.list.now c.loop-i.i c.loop-i-test.true), c.requires.1)
 
-pub returns-in-Equal : goal.returns-in-Equal
-returns-in-Equal g c = record {
+pub returns-then-not-is_lt : goal.returns-then-not-is_lt
+returns-then-not-is_lt g c = record {
   range = omega arith;
-  place = place_stop (g.O.Order.meaning c.args.order.now) (map lead_of c.args.rows.now) c.args.k c.args.list.now c.loop-i.i c.loop-i-test.true (ap is_lt (sym c.in-Equal.ensures)) ∙ c.loop-i.invariant;
-}
-
-pub returns-in-Greater : goal.returns-in-Greater
-returns-in-Greater g c = record {
-  range = omega arith;
-  place = place_stop (g.O.Order.meaning c.args.order.now) (map lead_of c.args.rows.now) c.args.k c.args.list.now c.loop-i.i c.loop-i-test.true (ap is_lt (sym c.in-Greater.ensures)) ∙ c.loop-i.invariant;
+  place = place_stop (g.O.Order.meaning c.args.order.now) (map lead_of c.args.rows.now) c.args.k c.args.list.now c.loop-i.i c.loop-i-test.true (ap is_lt (sym c.compare_leads.ensures) ∙ sym c.if-not-is_lt.ensures) ∙ c.loop-i.invariant;
 }
 
 pub loop-i-preserved : goal.loop-i-preserved
-loop-i-preserved g c = place_step (g.O.Order.meaning c.args.order.now) (map lead_of c.args.rows.now) c.args.k c.args.list.now c.loop-i.i c.loop-i-test.true (sym c.in-Less.ensures) ∙ c.loop-i.invariant
+loop-i-preserved g c = place_step (g.O.Order.meaning c.args.order.now) (map lead_of c.args.rows.now) c.args.k c.args.list.now c.loop-i.i c.loop-i-test.true (ap is_lt (sym c.compare_leads.ensures) ∙ sym c.if-not-is_lt.ensures) ∙ c.loop-i.invariant
 
 pub returns : goal.returns
 returns g c =

@@ -12,10 +12,10 @@ returns g c =
     let x = c.args.self.now in
     let y = c.add.new.self in
     let q = c.add.ensures in
-    let S = setting (g.F.Field.meaning x.field) (g.O.Order.meaning x.order) (g.D.Division.meaning x.division) x.variables in
-    let W : Lawful S = record { field = g.met.F.Field.laws x.field; order = g.met.O.Order.laws x.order; division = g.met.D.Division.laws x.division; variables = (x.some, x.few) } in
-    let kept : setting (g.F.Field.meaning y.field) (g.O.Order.meaning y.order) (g.D.Division.meaning y.division) y.variables ≡ S = λ i. setting (g.F.Field.meaning (q.kept.0 i)) (g.O.Order.meaning (q.kept.1 i)) (g.D.Division.meaning (q.kept.2 i)) (q.kept.3 i) in
-    let a = (q.adds x.agrees).0 in
+    let S = setting (g.F.Field.meaning x.ring.field) (g.O.Order.meaning x.ring.order) (g.D.Division.meaning x.division) x.ring.variables in
+    let W : Lawful S = record { field = g.met.F.Field.laws x.ring.field; order = g.met.O.Order.laws x.ring.order; division = g.met.D.Division.laws x.division; variables = (x.some, x.few) } in
+    let kept : setting (g.F.Field.meaning y.ring.field) (g.O.Order.meaning y.ring.order) (g.D.Division.meaning y.division) y.ring.variables ≡ S = λ i. setting (g.F.Field.meaning (q.kept.0 i).field) (g.O.Order.meaning (q.kept.0 i).order) (g.D.Division.meaning (q.kept.1 i)) (q.kept.0 i).variables in
+    let a = q.adds in
     record {
       kept = kept;
       refused = kept_when_refused c.add.result (vec_items x.table.rows) (vec_items y.table.rows) x.marks y.marks q.refused;

@@ -12,21 +12,21 @@ use Rattle.sheet.proofs.six.SheetCalls.fair_copy.Goals as goal
 pub returns-then-not-is_closed : goal.returns-then-not-is_closed
 returns-then-not-is_closed g c =
     let x = c.args.self.now in
-    let S = setting (g.F.Field.meaning x.field) (g.O.Order.meaning x.order) (g.D.Division.meaning x.division) x.variables in
-    let W : Lawful S = record { field = g.met.F.Field.laws x.field; order = g.met.O.Order.laws x.order; division = g.met.D.Division.laws x.division; variables = (x.some, x.few) } in
+    let S = setting (g.F.Field.meaning x.ring.field) (g.O.Order.meaning x.ring.order) (g.D.Division.meaning x.division) x.ring.variables in
+    let W : Lawful S = record { field = g.met.F.Field.laws x.ring.field; order = g.met.O.Order.laws x.ring.order; division = g.met.D.Division.laws x.division; variables = (x.some, x.few) } in
     let rows = vec_items x.table.rows in
     let xs = rows_of x.marks in
     let V : Sound S (state_of rows xs) → Whole S rows xs = λ I. record { table = x.agrees; state = I } in
-    let k = λ (I : Sound S (state_of rows xs)). copy_open (is_open S W rows xs (V I) c.as_slice.ensures.value c.if-not-is_closed.ensures) in
+    let k = λ (I : Sound S (state_of rows xs)). copy_open (is_open S W rows xs (V I) refl c.if-not-is_closed.ensures) in
     record { kept = refl; same = refl; stays = λ I. I; within = refl; answer = k; logged = λ I calls gs a. After.copied a (k I) }
 
 pub returns : goal.returns
 returns g c =
     let x = c.args.self.now in
-    let S = setting (g.F.Field.meaning x.field) (g.O.Order.meaning x.order) (g.D.Division.meaning x.division) x.variables in
-    let W : Lawful S = record { field = g.met.F.Field.laws x.field; order = g.met.O.Order.laws x.order; division = g.met.D.Division.laws x.division; variables = (x.some, x.few) } in
+    let S = setting (g.F.Field.meaning x.ring.field) (g.O.Order.meaning x.ring.order) (g.D.Division.meaning x.division) x.ring.variables in
+    let W : Lawful S = record { field = g.met.F.Field.laws x.ring.field; order = g.met.O.Order.laws x.ring.order; division = g.met.D.Division.laws x.division; variables = (x.some, x.few) } in
     let rows = vec_items x.table.rows in
     let xs = rows_of x.marks in
     let V : Sound S (state_of rows xs) → Whole S rows xs = λ I. record { table = x.agrees; state = I } in
-    let k = λ (I : Sound S (state_of rows xs)). copied_rows S W rows xs (V I) c.args.out.now c.write_fair_copy.result c.write_fair_copy.new.out c.as_slice-2.ensures.value (is_closed S W rows xs (V I) c.as_slice.ensures.value c.if-not-is_closed.ensures) (c.write_fair_copy.ensures.answer S.division S.variables xs) in
+    let k = λ (I : Sound S (state_of rows xs)). copied_rows S W rows xs (V I) c.args.out.now c.write_fair_copy.result c.write_fair_copy.new.out c.as_slice.ensures.value (is_closed S W rows xs (V I) refl c.if-not-is_closed.ensures) (c.write_fair_copy.ensures.answer S.division S.variables xs) in
     record { kept = refl; same = refl; stays = λ I. I; within = c.write_fair_copy.ensures.within; answer = k; logged = λ I calls gs a. After.copied a (k I) }

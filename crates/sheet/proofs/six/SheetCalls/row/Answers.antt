@@ -11,8 +11,8 @@ use Rattle.sheet.proofs.six.SheetCalls.row.Goals as goal
 pub returns-then-number-eq0 : goal.returns-then-number-eq0
 returns-then-number-eq0 g c =
     let x = c.args.self.now in
-    let S = setting (g.F.Field.meaning x.field) (g.O.Order.meaning x.order) (g.D.Division.meaning x.division) x.variables in
-    let W : Lawful S = record { field = g.met.F.Field.laws x.field; order = g.met.O.Order.laws x.order; division = g.met.D.Division.laws x.division; variables = (x.some, x.few) } in
+    let S = setting (g.F.Field.meaning x.ring.field) (g.O.Order.meaning x.ring.order) (g.D.Division.meaning x.division) x.ring.variables in
+    let W : Lawful S = record { field = g.met.F.Field.laws x.ring.field; order = g.met.O.Order.laws x.ring.order; division = g.met.D.Division.laws x.division; variables = (x.some, x.few) } in
     let rows = vec_items x.table.rows in
     let xs = rows_of x.marks in
     let n = c.args.number in
@@ -24,8 +24,8 @@ returns-then-number-eq0 g c =
 pub returns : goal.returns
 returns g c =
     let x = c.args.self.now in
-    let S = setting (g.F.Field.meaning x.field) (g.O.Order.meaning x.order) (g.D.Division.meaning x.division) x.variables in
-    let W : Lawful S = record { field = g.met.F.Field.laws x.field; order = g.met.O.Order.laws x.order; division = g.met.D.Division.laws x.division; variables = (x.some, x.few) } in
+    let S = setting (g.F.Field.meaning x.ring.field) (g.O.Order.meaning x.ring.order) (g.D.Division.meaning x.division) x.ring.variables in
+    let W : Lawful S = record { field = g.met.F.Field.laws x.ring.field; order = g.met.O.Order.laws x.ring.order; division = g.met.D.Division.laws x.division; variables = (x.some, x.few) } in
     let rows = vec_items x.table.rows in
     let xs = rows_of x.marks in
     let n = c.args.number in

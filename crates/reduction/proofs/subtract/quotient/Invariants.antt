@@ -1,6 +1,0 @@
-use Rattle.std.proofs.Common.{◌≡◌, ℕ, ◌-◌, ◌<◌, get_or}
-use Rattle.monomial.specs.Monomial.{Wide}
-use Rattle.reduction.proofs.subtract.quotient.Given as goal
-
-abbrev pub invariant-loop-i : goal.invariant-loop-i
-invariant-loop-i l = Wide l.exponents × ((h : ℕ) → h < l.i → get_or l.exponents h 0 ≡ get_or l.m.exponents h 0 - get_or l.u.exponents h 0)
