@@ -2,20 +2,17 @@
 use crate::problem::Problem;
 use crate::timing::{nanoseconds_since, time};
 use anyhow::anyhow;
-use calls::answer::Step;
+use calls::answer::{MOST_COPY_BYTES, Step};
 use calls::calls::Calls;
 use calls::refusal::Refusal;
 use field::Field;
+use monomial::Monomial;
 use monomial::division::Division;
 use monomial::order::Order;
-use monomial::{Monomial, WIDTH};
 use polynomial::check::MOST_TERMS;
 use polynomial::term::Term;
 use sheet::sheet::Sheet;
 use std::time::Instant;
-
-// The most bytes of a fair copy: 32 rows of 40 terms of 9 bytes, and a closing byte each.
-const MOST_BYTES: usize = 11552;
 
 // No problem takes more steps than one steps command asks for.
 const MOST_STEPS: u64 = 65_535;
@@ -125,13 +122,11 @@ pub(crate) fn measure<F: Field + Copy + Drop, O: Order + Copy + Drop, D: Divisio
     let completing = time(|times| repeat_completing(rt, &new_sheet, generators, times))?;
     let mut sheet = new_sheet()?;
     let size = complete(&mut sheet, generators)?;
-    let mut bytes = vec![in heap; 0u8; MOST_BYTES]?;
+    let mut bytes = vec![in heap; 0u8; MOST_COPY_BYTES]?;
     let copying = time(|times| repeat_copying(rt, &mut sheet, &mut bytes, times))?;
     let zero = Term {
         coefficient: 0,
-        monomial: Monomial {
-            exponents: [0; WIDTH],
-        },
+        monomial: Monomial::ONE,
     };
     let mut terms = vec![in heap; zero; MOST_TERMS]?;
     let probe = problem.probe.as_slice();

@@ -1,7 +1,6 @@
 // A problem: a sheet's operands, its generators, and a polynomial whose remainder is taken, as a command file gives them.
 use anyhow::anyhow;
 use choice::operands::Operands;
-use monomial::Monomial;
 use polynomial::term::Term;
 use replay::command::{Command, next};
 use std::alloc::{AllocError, Global};
@@ -12,16 +11,6 @@ pub(crate) struct Problem {
     pub(crate) operands: Operands,
     pub(crate) generators: Vec<Vec<Term>>,
     pub(crate) probe: Vec<Term>,
-}
-
-fn term_of(operands: &[u8; 8]) -> Term {
-    let [high, low, a, b, c, d, e, f] = *operands;
-    Term {
-        coefficient: u16::from_be_bytes([high, low]),
-        monomial: Monomial {
-            exponents: [a, b, c, d, e, f],
-        },
-    }
 }
 
 impl Problem {
@@ -43,7 +32,7 @@ impl Problem {
     ) -> Result<(), AllocError> {
         match command {
             Command::Sheet(operands) => self.operands = Operands::new(operands),
-            Command::Term(operands) => gathered.push(term_of(operands))?,
+            Command::Term(operands) => gathered.push(Term::from_bytes(operands))?,
             Command::Add => self.generators.push(mem::try_take(gathered)?)?,
             Command::Remainder => self.probe = mem::try_take(gathered)?,
             _ => {}

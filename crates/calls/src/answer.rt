@@ -9,6 +9,9 @@ pub enum Step {
     Appended,
 }
 
+// The most bytes of a fair copy: 32 rows of 40 terms of 9 bytes, and a closing byte each.
+pub const MOST_COPY_BYTES: usize = 11552;
+
 // How many rows a fair copy has, and how many bytes were written.
 #[derive(Clone, Copy)]
 pub struct Copied {

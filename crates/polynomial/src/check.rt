@@ -15,6 +15,9 @@ use monomial::order::Order;
 // The most terms of a polynomial that is handed over.
 pub const MOST_TERMS: usize = 40;
 
+// The most rows of a table.
+pub const MOST_ROWS: usize = 32;
+
 // The largest exponent of a polynomial that is handed over.
 pub const LARGEST_EXPONENT: u8 = 40;
 

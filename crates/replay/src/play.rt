@@ -12,9 +12,9 @@ ghost use Rattle.replay.specs.Replay.{Stepping, Acts, Ran, Starts, granted};
 
 use crate::command::{Command, Fault, next};
 use crate::tell::{Steps, answered, copied, made, refused, shown, stepped};
-use calls::answer::Step;
+use calls::answer::{MOST_COPY_BYTES, Step};
 use calls::calls::Calls;
-use monomial::{Monomial, WIDTH};
+use monomial::Monomial;
 use polynomial::check::MOST_TERMS;
 use polynomial::term::Term;
 use std::alloc::{AllocError, Global};
@@ -22,24 +22,8 @@ use std::alloc::{AllocError, Global};
 // One term more than a polynomial may have: enough for it to be refused.
 const MOST_GATHERED: usize = 41;
 
-// The most bytes of a fair copy: 32 rows of 40 terms of 9 bytes, and a closing byte each.
-const MOST_BYTES: usize = 11552;
-
 // How many bytes the sheet command takes.
 const SHEET_BYTES: usize = 7;
-
-// The term that the operands of a term command name.
-fn term_of(operands: &[u8; 8]) -> Term
-    ensures { result ≡ term_of operands.now }
-{
-    let [high, low, a, b, c, d, e, f] = *operands;
-    Term {
-        coefficient: u16::from_be_bytes([high, low]),
-        monomial: Monomial {
-            exponents: [a, b, c, d, e, f],
-        },
-    }
-}
 
 // The command at the front, which may be any but a sheet command, and the rest.
 fn next_call<'a>(input: &'a [u8]) -> Result<Option<(Command<'a>, &'a [u8])>, Fault>
@@ -85,7 +69,7 @@ fn repeat_step<C: Calls>(sheet: &mut C, count: u16) -> Steps
 struct Replay {
     gathered: Vec<Term>,
     terms: [Term; MOST_TERMS],
-    bytes: [u8; MOST_BYTES],
+    bytes: [u8; MOST_COPY_BYTES],
     text: Vec<u8>,
 }
 
@@ -96,14 +80,12 @@ impl Replay {
     {
         let zero = Term {
             coefficient: 0,
-            monomial: Monomial {
-                exponents: [0; WIDTH],
-            },
+            monomial: Monomial::ONE,
         };
         Replay {
             gathered: Vec::new(heap),
             terms: [zero; MOST_TERMS],
-            bytes: [0; MOST_BYTES],
+            bytes: [0; MOST_COPY_BYTES],
             text: Vec::new(heap),
         }
     }
@@ -113,7 +95,7 @@ impl Replay {
         ensures gathers { OnOk result (self.new.gathered.items ≡ gather self.old.gathered.items (term_of operands.now)) }
     {
         if self.gathered.len() < MOST_GATHERED {
-            self.gathered.push(term_of(operands))?;
+            self.gathered.push(Term::from_bytes(operands))?;
         }
         Ok(())
     }

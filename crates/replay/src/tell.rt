@@ -1,6 +1,6 @@
 // The line of each answer.
 ghost use Rattle.std.specs.Prelude.{◌≡◌, ◌≤◌, [], length, IfOk};
-ghost use Rattle.std.specs.Option.{option_map};
+ghost use Rattle.std.specs.Option.{option_map, unwrap_or};
 ghost use Rattle.calls.specs.Told.{told, added, wrote, copied as copied_as};
 ghost use Rattle.lines.specs.Line.{line, line_text};
 ghost use Rattle.replay.specs.Grammar.{byte_of, fault_byte, fault_number, no_sheet_number};
@@ -104,25 +104,6 @@ pub(crate) fn stepped(at: usize, operands: &[u8; 2], steps: Steps) -> Line<'stat
     }
 }
 
-// The line of the making: number 0 where the sheet is made.
-fn making_line(number: u8) -> Line<'static>
-    ensures { line_text result ≡ line 0 0 number 0 [] }
-{
-    Line {
-        at: 0,
-        byte: 0,
-        number,
-        value: 0,
-        more: More::Nothing,
-    }
-}
-
-pub(crate) fn made() -> Line<'static>
-    ensures { line_text result ≡ line 0 0 0 0 [] }
-{
-    making_line(0)
-}
-
 // The number by which the formats name what is missing.
 fn unnamed_number(reason: Unnamed) -> u8
     ensures { result ≡ no_sheet_number reason }
@@ -135,10 +116,29 @@ fn unnamed_number(reason: Unnamed) -> u8
     }
 }
 
+// The line of the making, where nothing is missing or that is.
+fn making(missing: Option<Unnamed>) -> Line<'static>
+    ensures { line_text result ≡ line 0 0 (unwrap_or (option_map no_sheet_number missing) 0) 0 [] }
+{
+    Line {
+        at: 0,
+        byte: 0,
+        number: missing.map_or(0, unnamed_number),
+        value: 0,
+        more: More::Nothing,
+    }
+}
+
+pub(crate) fn made() -> Line<'static>
+    ensures { line_text result ≡ line 0 0 0 0 [] }
+{
+    making(None)
+}
+
 pub(crate) fn not_made(reason: Unnamed) -> Line<'static>
     ensures { line_text result ≡ line 0 0 (no_sheet_number reason) 0 [] }
 {
-    making_line(unnamed_number(reason))
+    making(Some(reason))
 }
 
 // The line of a command that is not carried out.

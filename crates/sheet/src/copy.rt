@@ -13,13 +13,12 @@ ghost use Rattle.sheet.specs.Copying.{row_room, copy_room, RowCopied, RowsCopied
 
 use crate::select::select;
 use crate::settle::reduce;
-use crate::table::MOST_ROWS;
 use calls::answer::Copied;
 use calls::refusal::Refusal;
 use field::Field;
 use monomial::order::Order;
 use polynomial::bytes::{TERM_BYTES, term_bytes};
-use polynomial::check::MOST_TERMS;
+use polynomial::check::{MOST_ROWS, MOST_TERMS};
 use polynomial::ring::Ring;
 use polynomial::term::Term;
 use reduction::reduce::Work;

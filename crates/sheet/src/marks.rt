@@ -5,8 +5,8 @@ ghost use Rattle.monomial.specs.Monomial.{width};
 ghost use Rattle.involutive.specs.Sheet.{most_rows};
 ghost use Rattle.sheet.specs.Marks.{rows_of, marked};
 
-use crate::table::MOST_ROWS;
 use monomial::WIDTH;
+use polynomial::check::MOST_ROWS;
 
 // For each row, at which variables it is marked.
 #[derive(Clone, Copy)]

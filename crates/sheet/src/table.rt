@@ -2,12 +2,10 @@
 ghost use Rattle.std.specs.Prelude.{◌≡◌, ℕ, ◌+◌, ◌≤◌, List, [], IfOk, vec_len, vec_capacity};
 
 use monomial::Monomial;
+use polynomial::check::MOST_ROWS;
 use reduction::buffer::Buffer;
 use reduction::table::Row;
 use std::alloc::{AllocError, Global};
-
-// The most rows of a sheet.
-pub(crate) const MOST_ROWS: usize = 32;
 
 // Up to 32 rows, buffers for those to come, and the list of leading monomials that a division is asked about.
 #[derive(Drop)]

@@ -15,12 +15,10 @@ use field::Field;
 use monomial::Monomial;
 use monomial::order::Order;
 use polynomial::bytes::TERM_BYTES;
+use polynomial::check::MOST_ROWS;
 use polynomial::ring::Ring;
 use polynomial::term::Term;
 use std::alloc::Global;
-
-// The most rows of a table.
-const MOST_ROWS: usize = 32;
 
 // Whether a row leads with the monomial.
 fn has_leader(rows: &[Row], monomial: &Monomial) -> bool
