@@ -29,8 +29,9 @@ impl Case {
     // One line more.
     fn take_line(&mut self, heap: Global, line: &str) -> anyhow::Result<()> {
         if let Some(text) = line.strip_prefix("in ") {
-            let bytes = hex::decode(heap, text)
-                .map_err(|_| anyhow!("a case has an input that is not hexadecimal"))?;
+            let bytes = hex::decode(heap, text).map_err(|_| anyhow!(
+                "a case has an input that is not hexadecimal"
+            ))?;
             self.input.extend_from_slice(bytes.as_slice())?;
         }
         if let Some(expected) = line.strip_prefix("out ") {

@@ -8,8 +8,9 @@ use std::io::{Read, Write};
 fn run(rt: &HostRuntime) -> anyhow::Result<()> {
     let mut input = Vec::new(rt.alloc());
     rt.stdin().take(MOST_INPUT as u64).read_to_end(&mut input)?;
-    let text = transcript(rt.alloc(), input.as_slice())
-        .map_err(|_| anyhow!("no memory for the transcript"))?;
+    let text = transcript(rt.alloc(), input.as_slice()).map_err(|_| anyhow!(
+        "no memory for the transcript"
+    ))?;
     rt.stdout().write_all(text.as_slice())?;
     Ok(())
 }
