@@ -33,19 +33,18 @@ pub(crate) struct Figures {
     pub(crate) remainder: u64,
 }
 
-// No problem has a call that is refused.
-fn refused(_refusal: Refusal) -> anyhow::Error {
-    anyhow!("a call was refused")
+fn incomplete(_refusal: Refusal) -> anyhow::Error {
+    anyhow!("a sheet could not be completed")
 }
 
 // Adds the generators and steps until the sheet is closed.
 fn complete<C: Calls>(sheet: &mut C, generators: &[Vec<Term>]) -> anyhow::Result<Size> {
     let mut size = Size { rows: 0, steps: 0 };
     for generator in generators {
-        size.rows = sheet.add(generator.as_slice()).map_err(refused)? as u64;
+        size.rows = sheet.add(generator.as_slice()).map_err(incomplete)? as u64;
     }
     for _ in 0..MOST_STEPS {
-        match sheet.step().map_err(refused)? {
+        match sheet.step().map_err(incomplete)? {
             Step::Closed => return Ok(size),
             Step::Marked => {}
             Step::Appended => size.rows = size.rows.saturating_add(1),
@@ -83,7 +82,9 @@ fn repeat_copying<C: Calls>(
 ) -> anyhow::Result<u64> {
     let start = Instant::now(rt)?;
     for _ in 0..times {
-        let _ = sheet.fair_copy(out).map_err(refused)?;
+        let _ = sheet
+            .fair_copy(out)
+            .map_err(|_| anyhow!("a fair copy was refused"))?;
     }
     nanoseconds_since(rt, start)
 }
@@ -98,7 +99,9 @@ fn repeat_remainder<C: Calls>(
 ) -> anyhow::Result<u64> {
     let start = Instant::now(rt)?;
     for _ in 0..times {
-        let _ = sheet.remainder(probe, out).map_err(refused)?;
+        let _ = sheet
+            .remainder(probe, out)
+            .map_err(|_| anyhow!("a remainder was refused"))?;
     }
     nanoseconds_since(rt, start)
 }

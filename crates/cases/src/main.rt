@@ -29,10 +29,8 @@ impl Case {
     // One line more.
     fn take_line(&mut self, heap: Global, line: &str) -> anyhow::Result<()> {
         if let Some(text) = line.strip_prefix("in ") {
-            let bytes = hex::decode(heap, text).map_err(|_| anyhow!(
-                "a case has an input that is not hexadecimal"
-            ))?;
-            self.input.extend_from_slice(bytes.as_slice())?;
+            self.input
+                .extend_from_slice(decode(heap, text)?.as_slice())?;
         }
         if let Some(expected) = line.strip_prefix("out ") {
             self.expected.push_str(expected)?;
@@ -51,6 +49,17 @@ impl Case {
         }
         Ok(passed)
     }
+}
+
+// The bytes that a hexadecimal text names; its letters are small.
+fn decode(heap: Global, text: &str) -> anyhow::Result<Vec<u8>> {
+    if !text.bytes().all(|b| matches!(b, b'0'..=b'9' | b'a'..=b'f')) {
+        return Err(anyhow!("a case has an input that is not hexadecimal"));
+    }
+    if text.len() % 2 == 1 {
+        return Err(anyhow!("a case has half a byte"));
+    }
+    Ok(hex::decode(heap, text)?)
 }
 
 // How many cases came out as written, and how many did not.

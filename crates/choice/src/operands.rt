@@ -2,6 +2,10 @@
 ghost use Rattle.std.specs.Prelude.{◌≡◌};
 ghost use Rattle.choice.specs.Choice.{operands_of};
 
+// How many bytes the command takes.
+pub const SHEET_BYTES: usize = 7;
+
+// They are numbers here, as in the file; `choose` makes types of them.
 #[derive(Clone, Copy, PartialEq, Eq, Debug)]
 pub struct Operands {
     pub kind: u8,

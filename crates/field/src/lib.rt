@@ -38,3 +38,30 @@ pub trait Field {
 
     ghost laws: { (x : Self) → FieldLaws (meaning x) };
 }
+
+// A field that is lent is a field.
+impl<F: Field> Field for &F {
+    ghost meaning = { λ x. F.Field.meaning x.now };
+
+    ghost laws = { λ x. F.Field.laws x.now };
+
+    fn size(&self) -> u16 {
+        (**self).size()
+    }
+
+    fn add(&self, a: u16, b: u16) -> Option<u16> {
+        (**self).add(a, b)
+    }
+
+    fn neg(&self, a: u16) -> Option<u16> {
+        (**self).neg(a)
+    }
+
+    fn mul(&self, a: u16, b: u16) -> Option<u16> {
+        (**self).mul(a, b)
+    }
+
+    fn inv(&self, a: u16) -> Option<u16> {
+        (**self).inv(a)
+    }
+}

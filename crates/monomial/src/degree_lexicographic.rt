@@ -17,6 +17,7 @@ impl Order for DegreeLexicographic {
     ghost laws = { λ x. degree_lexicographic_laws };
 
     fn compare(&self, a: &Monomial, b: &Monomial) -> Ordering {
+        // As in the other graded order but for what breaks the tie: a function over that would be no shorter.
         a.degree()
             .cmp(&b.degree())
             .then_with(|| compare_exponents(a, b))

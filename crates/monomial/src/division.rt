@@ -45,6 +45,9 @@ pub(crate) fn agree(a: &Monomial, b: &Monomial, count: usize) -> bool
     a.exponents[..count] == b.exponents[..count]
 }
 
+// What a division answers of a member. The two here share this and `find_member` and no more: one function over both would
+// have to be told how many variables stand before one that is none.
+//
 // Whether no member that has u's exponents in the first `before` variables has a larger exponent of the variable.
 pub(crate) fn is_largest(list: &[Monomial], u: &Monomial, variable: usize, before: usize) -> bool
     requires { Within variable width × (before ≤ width) }

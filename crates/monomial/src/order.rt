@@ -14,3 +14,14 @@ pub trait Order {
 
     ghost laws: { (x : Self) → OrderLaws (meaning x) };
 }
+
+// An order that is lent is an order.
+impl<O: Order> Order for &O {
+    ghost meaning = { λ x. O.Order.meaning x.now };
+
+    ghost laws = { λ x. O.Order.laws x.now };
+
+    fn compare(&self, a: &Monomial, b: &Monomial) -> Ordering {
+        (**self).compare(a, b)
+    }
+}

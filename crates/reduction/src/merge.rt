@@ -17,7 +17,8 @@ use polynomial::term::Term;
 use std::array::from_fn;
 use std::cmp::Ordering;
 
-// The product of two monomials. An exponent above 255 becomes 255: no multiple that is kept has one above 40.
+// The product of two monomials. An exponent above 255 becomes 255: no multiple that is kept has one above 40. A function
+// over the operation, for this and `quotient`, would take more lines than the two.
 fn multiply(a: &Monomial, b: &Monomial) -> Monomial
     ensures { result.exponents ≡ capped_product a.now.exponents b.now.exponents }
 {

@@ -37,11 +37,9 @@ impl Task for Opening<'_> {
     ) -> Result<Vec<u8>, AllocError> {
         match Sheet::new(self.heap, field, order, division, variables) {
             Ok(mut sheet) => run(self.heap, &mut sheet, self.rest),
-            Err(unmade) => match unmade {
-                // Not where there are 1 to 6 variables.
-                Unmade::Variables => text_of(self.heap, not_made(Unnamed::Variables)),
-                Unmade::Memory => Err(AllocError),
-            },
+            // Not where there are 1 to 6 variables.
+            Err(Unmade::Variables) => text_of(self.heap, not_made(Unnamed::Variables)),
+            Err(Unmade::Memory) => Err(AllocError),
         }
     }
 }

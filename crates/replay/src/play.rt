@@ -14,6 +14,7 @@ use crate::command::{Command, Fault, next};
 use crate::tell::{Steps, answered, copied, made, refused, shown, stepped};
 use calls::answer::{MOST_COPY_BYTES, Step};
 use calls::calls::Calls;
+use choice::operands::SHEET_BYTES;
 use monomial::Monomial;
 use polynomial::check::MOST_TERMS;
 use polynomial::term::Term;
@@ -21,9 +22,6 @@ use std::alloc::{AllocError, Global};
 
 // One term more than a polynomial may have: enough for it to be refused.
 const MOST_GATHERED: usize = 41;
-
-// How many bytes the sheet command takes.
-const SHEET_BYTES: usize = 7;
 
 // The command at the front, which may be any but a sheet command, and the rest.
 fn next_call<'a>(input: &'a [u8]) -> Result<Option<(Command<'a>, &'a [u8])>, Fault>

@@ -33,6 +33,7 @@ fn make_row<F: Field>(field: &F, g: &[Term], buffer: Buffer) -> Result<Row, Buff
         coefficient: field.inv(first.coefficient).unwrap_or(0),
         monomial: Monomial::ONE,
     };
+    // By a test, since what goes back on a refusal is the buffer and not the reason.
     if scale(field, g, &inverse, &mut filled).is_err() {
         return Err(filled);
     }

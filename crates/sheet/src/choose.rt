@@ -17,7 +17,6 @@ use monomial::division::Division;
 use monomial::order::Order;
 use polynomial::ring::Ring;
 use reduction::table::Lead;
-use std::cmp::Ordering;
 
 // A pair, and its row's leading monomial times its variable; both count from 1. That they are in range stands in the
 // contracts and not in the type, so that the definitions can speak of any pair.
@@ -28,7 +27,8 @@ pub(crate) struct Pick {
     pub(crate) height: Monomial,
 }
 
-// m times variable v. An exponent of 255 stays: no leading monomial of a sheet has one above 40.
+// m times variable v. An exponent of 255 stays: no leading monomial of a sheet has one above 40. One exponent is raised,
+// where a product with the variable would go through six.
 fn raise(m: &Monomial, v: usize) -> Monomial
     requires { Within v width }
     ensures { result.exponents ≡ capped_raise m.now.exponents v }
@@ -42,11 +42,7 @@ fn raise(m: &Monomial, v: usize) -> Monomial
 fn keep_better<O: Order>(order: &O, pick: Pick, best: &mut Option<Pick>)
     ensures { best.new ≡ bettered (O.Order.meaning order.now) pick best.old }
 {
-    let is_smaller = match best {
-        None => true,
-        Some(old) => order.compare(&pick.height, &old.height) == Ordering::Less,
-    };
-    if is_smaller {
+    if best.is_none_or(|old| order.compare(&pick.height, &old.height).is_lt()) {
         *best = Some(pick);
     }
 }

@@ -11,6 +11,7 @@ ghost use Rattle.reduction.specs.Table.{setting, terms_of, table_of, SoundTable}
 ghost use Rattle.sheet.specs.Marks.{state_of};
 ghost use Rattle.sheet.specs.Copying.{row_room, copy_room, RowCopied, RowsCopied, Delivered};
 
+use crate::put::put;
 use crate::select::select;
 use crate::settle::reduce;
 use calls::answer::Copied;
@@ -35,7 +36,8 @@ const ROW_BYTES: usize = (1 + MOST_TERMS) * TERM_BYTES + 1;
 // Room for the bytes of 32 rows.
 const COPY_BYTES: usize = MOST_ROWS * ROW_BYTES;
 
-// What a fair copy is made in: the numbers of the rows to copy, and the bytes. The room is taken once.
+// What a fair copy is made in: the numbers of the rows to copy, and the bytes. The room is taken once and outlives each copy,
+// so it has numbers and no references to rows.
 #[derive(Drop)]
 pub(crate) struct CopyBuffer {
     pub(crate) list: Vec<usize>,
@@ -114,15 +116,8 @@ fn copy_rows<F: Field, O: Order>(
 fn write_copy(rows: usize, bytes: &[u8], out: &mut [u8]) -> Result<Copied, Refusal>
     ensures { Delivered rows bytes.now out.old result out.new }
 {
-    let needed = bytes.len();
-    if out.len() < needed {
-        return Err(Refusal::Short(needed));
-    }
-    out[0..needed].copy_from_slice(bytes);
-    Ok(Copied {
-        rows,
-        bytes: needed,
-    })
+    let bytes = put(bytes, out)?;
+    Ok(Copied { rows, bytes })
 }
 
 // The fair copy of a closed sheet with these rows, into the lent bytes: how many rows and bytes it has.

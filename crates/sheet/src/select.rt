@@ -35,7 +35,8 @@ fn compare_leads<O: Order>(order: &O, rows: &[Row], j: usize, k: usize) -> Order
     order.compare(&rows[j - 1].lead.monomial, &rows[k - 1].lead.monomial)
 }
 
-// Where row k goes in the list: before the first row that does not stand below it.
+// Where row k goes in the list: before the first row that does not stand below it. By a loop: a closure for `position` would
+// have to show of each number in the list that it is a row's, and did not.
 fn place_of<O: Order>(order: &O, rows: &[Row], list: &[usize], k: usize) -> usize
     requires { ((j : ℕ) → Memᴰ j list.now → Within j (length rows.now)) × Within k (length rows.now) }
     ensures range { result ≤ length list.now }

@@ -87,11 +87,12 @@ impl From<AllocError> for Fault {
     }
 }
 
-impl fmt::Display for Reason {
-    ghost output = { λ reason. the (reason_text reason) };
-
-    fn fmt<W: fmt::Write>(&self, f: &mut fmt::Formatter<W>) -> fmt::Result {
-        f.write_str(match self {
+impl Reason {
+    // What is wrong, in words.
+    pub fn describe(&self) -> &'static str
+        ensures { result.now ≡ reason_text self.now }
+    {
+        match self {
             Reason::NoSheet => "no whole sheet command",
             Reason::NoField => "no such field",
             Reason::NoVariables => "not 1 to 6 variables",
@@ -105,7 +106,15 @@ impl fmt::Display for Reason {
             Reason::Zero => "row without terms",
             Reason::NotMonic => "leading coefficient is not 1",
             Reason::Repeated => "leading monomial of an earlier row",
-        })
+        }
+    }
+}
+
+impl fmt::Display for Reason {
+    ghost output = { λ reason. the (reason_text reason) };
+
+    fn fmt<W: fmt::Write>(&self, f: &mut fmt::Formatter<W>) -> fmt::Result {
+        f.write_str(self.describe())
     }
 }
 

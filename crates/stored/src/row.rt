@@ -1,5 +1,5 @@
 // A row of a stored table.
-ghost use Rattle.std.specs.Prelude.{◌≡◌, ◌<◌, vec_items, vec_len};
+ghost use Rattle.std.specs.Prelude.{◌≡◌, ◌<◌, ◌∷◌, drop, vec_items, vec_len};
 ghost use Rattle.polynomial.specs.Polynomial.{leading};
 ghost use Rattle.stored.specs.Leader.{leader_of};
 
@@ -14,11 +14,18 @@ pub(crate) struct Row {
 }
 
 impl Row {
+    // Its leading term.
+    pub(crate) fn first(&self) -> Term
+        ensures { vec_items self.now.terms ≡ result ∷ drop 1 (vec_items self.now.terms) }
+    {
+        self.terms[0]
+    }
+
     // Its leading monomial.
     pub(crate) fn leader(&self) -> Monomial
         ensures value { result ≡ leader_of (vec_items self.now.terms) }
         ensures leads { result.exponents ≡ leading (vec_items self.now.terms) }
     {
-        self.terms[0].monomial
+        self.first().monomial
     }
 }

@@ -27,13 +27,11 @@ fn has_leader(rows: &[Row], monomial: &Monomial) -> bool
     rows.iter().any(|row| row.leader().is_same(monomial))
 }
 
-// Whether a polynomial leads with coefficient 1 and a monomial that no row before it leads with.
-fn check_leader(before: &[Row], terms: &[Term]) -> Result<(), Reason>
-    ensures { IsFine (leading_fault (map leading (polys before.now)) terms.now) result }
+// Whether a row leads with coefficient 1 and a monomial that no row before it leads with.
+fn check_leader(before: &[Row], row: &Row) -> Result<(), Reason>
+    ensures { IsFine (leading_fault (map leading (polys before.now)) (vec_items row.now.terms)) result }
 {
-    let Some(first) = terms.first() else {
-        return Err(Reason::Zero);
-    };
+    let first = row.first();
     if first.coefficient != 1 {
         return Err(Reason::NotMonic);
     }
@@ -55,8 +53,12 @@ fn check_row<F: Field, O: Order>(
         return Err(Reason::TooManyRows);
     }
     ring.check(&terms)?;
-    check_leader(before, &terms)?;
-    Ok(Row { terms })
+    if terms.is_empty() {
+        return Err(Reason::Zero);
+    }
+    let row = Row { terms };
+    check_leader(before, &row)?;
+    Ok(row)
 }
 
 // Where in the file a fault of the record at that offset stands.

@@ -12,16 +12,13 @@ use crate::row::Row;
 use crate::rows::read_rows;
 use crate::text::Table;
 use choice::choose::{Task, choose};
-use choice::operands::Operands;
+use choice::operands::{Operands, SHEET_BYTES};
 use field::Field;
 use monomial::Monomial;
 use monomial::division::Division;
 use monomial::order::Order;
 use polynomial::ring::Ring;
 use std::alloc::{AllocError, Global};
-
-// The length of a sheet command.
-const SHEET_BYTES: usize = 7;
 
 // The leading monomials of the rows, among which a division is asked.
 fn leaders_of(heap: Global, rows: &[Row]) -> Result<Vec<Monomial>, AllocError>

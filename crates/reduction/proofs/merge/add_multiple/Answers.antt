@@ -1,6 +1,6 @@
-use Rattle.std.proofs.Common.{◌≡◌, ℕ, suc, ◌+◌, ◌<◌, ◌≤◌, [], ◌∷◌, ◌++◌, map, length, get_or, take, drop, vec_items, sym, ap, ◌∙◌, subst, add-one, length-append, arith, rules}
+use Rattle.std.proofs.Common.{◌≡◌, suc, ◌+◌, [], ◌∷◌, ◌++◌, map, length, get_or, take, drop, vec_items, ap, ◌∙◌, subst, add-one, length-append, arith}
 use Rattle.std.proofs.lemmas.List.{take_rest}
-use Rattle.polynomial.specs.Polynomial.{Poly, term, exponents}
+use Rattle.polynomial.specs.Polynomial.{term, exponents}
 use Rattle.reduction.specs.Merging.{Sums, image, code_sum}
 use Rattle.reduction.proofs.Meeting.{copied, met_alone, met_gone, met_both}
 use Rattle.reduction.proofs.AddingUp.{failed, behind, closed, turned, turned_long}

@@ -3,14 +3,11 @@ use lib.ListN.{length-map}
 use Rattle.std.proofs.lemmas.List.{take_all}
 use Rattle.polynomial.specs.Polynomial.{exponents}
 use Rattle.reduction.specs.Merging.{image}
-use Rattle.reduction.proofs.Multiples.{fits_yes, fits_no, images, one_more}
+use Rattle.reduction.proofs.Multiples.{fits_yes, fits_no, images}
 use Rattle.reduction.proofs.scale.scale.Goals as goal
 
 pub returns-then-not-fits-clause-value : goal.returns-then-not-fits-clause-value
 returns-then-not-fits-clause-value g c n o p = fits_no (g.F.Field.meaning c.args.field.now) c.args.factor.now.coefficient (exponents c.args.factor.now) c.args.terms.now (sym c.if-not-fits.ensures)
-
-pub loop-term-preserved : goal.loop-term-preserved
-loop-term-preserved g c = one_more (image (g.F.Field.meaning c.args.field.now) c.args.factor.now.coefficient (exponents c.args.factor.now)) c.args.terms.now c.loop-term.term-index c.image.result (vec_items c.loop-term.out.terms) (vec_items c.push.new.self.terms) c.push.result (omega arith) (omega arith) c.loop-term.invariant c.image.ensures c.push.ensures
 
 pub returns : goal.returns
 returns g c =

@@ -1,8 +1,6 @@
-use Rattle.std.proofs.Common.{◌≡◌, ◌+◌, ◌≤◌, [], ◌++◌, length, is_ok, vec_items, vec_len, vec_capacity, ap, ◌∙◌, arith, rules}
-use Rattle.std.proofs.lemmas.List.{take_all}
+use Rattle.std.proofs.Common.{◌≡◌, ◌+◌, ◌≤◌, [], length, is_ok, vec_items, vec_len, vec_capacity, ◌∙◌, arith, rules}
 use Rattle.std.proofs.lemmas.Bool.{cond-true}
 use Rattle.polynomial.specs.Polynomial.{term}
-use Rattle.polynomial.specs.Bytes.{poly_bytes}
 use Rattle.sheet.proofs.FairCopying.{push_more}
 use Rattle.sheet.proofs.copy.push_terms.Goals as goal
 
@@ -16,12 +14,3 @@ loop-term-preserved c =
       omega (arith, c.extend_from_slice.ensures.capacity, c.loop-term.invariant.1),
       push_more c.args.terms.now c.loop-term.term-index (term 0 []) (vec_items c.args.bytes.now) (vec_items c.loop-term.bytes) (vec_items c.extend_from_slice.new.self) c.term_bytes.result (is_ok c.extend_from_slice.result) c.loop-term-test.true c.loop-term.invariant.2 c.term_bytes.ensures t c.extend_from_slice.ensures.items,
     )
-
-pub returns : goal.returns
-returns c =
-    let e : c.loop-term.term-index ≡ length c.args.terms.now = omega arith in
-    record {
-      items = c.loop-term.invariant.2 ∙ ap (λ x. vec_items c.args.bytes.now ++ poly_bytes x) (take_all c.loop-term.term-index c.args.terms.now c.loop-term-test.false);
-      len = omega (arith, e, c.loop-term.invariant.0);
-      room = c.loop-term.invariant.1;
-    }

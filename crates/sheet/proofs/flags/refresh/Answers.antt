@@ -1,4 +1,4 @@
-use Rattle.std.proofs.Common.{ℕ, suc, ◌<◌, [], length, refl, ◌∙◌, subst, add-one, arith, rules}
+use Rattle.std.proofs.Common.{ℕ, suc, ◌<◌, [], length, refl, ◌∙◌, subst, add-one, rules}
 use Rattle.monomial.specs.Lists.{exponents_of}
 use Rattle.reduction.specs.Table.{terms_of}
 use Rattle.sheet.specs.Rows.{lead_of, flags_of, Asked}
@@ -18,6 +18,3 @@ loop-i-preserved g c =
       map_kept_at lead_of rows i r _ refl ∙ c.loop-i.invariant.1,
       map_updated (λ j x. Asked D U (suc j) x) flags_of rows i _ [] inside flag c.loop-i.invariant.2,
     )
-
-pub returns : goal.returns
-returns g c = record { terms = c.loop-i.invariant.0; leads = c.loop-i.invariant.1; asked = λ j h. c.loop-i.invariant.2 j (omega arith) }

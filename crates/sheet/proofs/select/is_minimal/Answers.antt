@@ -22,6 +22,3 @@ loop-i-preserved c =
       | else-i-k-via-then-i-k+else-divides w ↦ λ d. absurd (not_from_Decides w.divides.result (decides_with w.divides.result (lead_from rows c.loop-i.i c.index-rows-i.result c.loop-i-test.true c.index-rows-i.is) (lead_at rows c.args.k _ c.requires) w.divides.ensures) w.if-divides.false d)
       | else-i-k-via-else-i-k w ↦ λ d. w.if-i-k.false
     ])
-
-pub returns : goal.returns
-returns c = (λ e j w. let n = length-map c.args.rows.now lead_of in c.loop-i.invariant j (w.0, omega arith), λ u. refl)

@@ -5,7 +5,7 @@ use Rattle.std.proofs.lemmas.Bool.{cond-true}
 use Rattle.std.proofs.lemmas.Bool.Decides.{not_from_Decides}
 use Rattle.sheet.specs.Rows.{lead_of}
 use Rattle.sheet.specs.Selecting.{placed}
-use Rattle.sheet.proofs.Selections.{so_far_none, so_far_more, so_far_same, so_far_all}
+use Rattle.sheet.proofs.Selections.{so_far_none, so_far_more, so_far_same}
 use Rattle.sheet.proofs.select.select.Goals as goal
 use Rattle.sheet.proofs.select.select.Goals.{then-is_minimal, else-is_minimal}
 
@@ -39,11 +39,3 @@ loop-i-preserved g c =
           let v = ap vec_capacity w.list-is in
           (omega (arith, l, c.loop-i.invariant.0), omega (arith, v, c.loop-i.invariant.1), so_far_same O Q U i old new I h (not_from_Decides c.is_minimal.result c.is_minimal.ensures w.if-is_minimal.false) (ap vec_items w.list-is))
     ]
-
-pub returns : goal.returns
-returns g c =
-    let O = g.O.Order.meaning c.args.order.now in
-    let rows = c.args.rows.now in
-    let e : c.loop-i.i ≡ length rows = omega arith in
-    let I = so_far_all O (map lead_of rows) c.loop-i.i (length rows) (vec_items c.loop-i.list) e c.loop-i.invariant.2 in
-    record { room = c.loop-i.invariant.1; few = omega (arith, c.loop-i.invariant.0, e); picks = I.0; rises = I.1 }

@@ -1,4 +1,4 @@
-use Rattle.std.proofs.Common.{◌≡◌, Ok, Err, ℕ, ◌+◌, ◌≤◌, [], length, take, vec_items, sym, ap, ◌∙◌, subst, arith, rules}
+use Rattle.std.proofs.Common.{◌≡◌, Err, ℕ, ◌+◌, ◌≤◌, [], length, take, vec_items, sym, ap, ◌∙◌, subst, arith, rules}
 use Rattle.std.proofs.lemmas.List.{take_rest}
 use Rattle.polynomial.specs.Polynomial.{Poly}
 use Rattle.involutive.specs.Reduction.{Reduces}
@@ -36,11 +36,6 @@ returns-in-None g c D n s a b l =
     let most : c.args.room ≤ c.min-most.result = omega (arith, c.min-most.ensures) in
     finished (G n) D rows s c.args.room (vec_items c.extend.new.self.terms) st c.in-None.ensures
     (extend_all fine xs c.min-most.result c.extend.result _ (front_fits (G n) D rows s c.args.room st xs (omega arith) c.min-most.result most) c.extend.ensures)
-
-pub overflow_sub-free : goal.overflow_sub-free
-overflow_sub-free g c =
-    let e = extend_fits (vec_items c.loop.done.terms) (take c.in-Some.i c.as_slice-terms.result.now) c.min-most.result c.extend-in-Some.result (vec_items c.extend-in-Some.new.self.terms) c.loop.invariant.0 c.extend-in-Some.ensures in
-    search rules
 
 pub returns-in_err-map_err-in-Some : goal.returns-in_err-map_err-in-Some
 returns-in_err-map_err-in-Some g c D n s a b l =
