@@ -42,7 +42,12 @@ fn raise(m: &Monomial, v: usize) -> Monomial
 fn keep_better<O: Order>(order: &O, pick: Pick, best: &mut Option<Pick>)
     ensures { best.new ≡ bettered (O.Order.meaning order.now) pick best.old }
 {
-    if best.is_none_or(|old| order.compare(&pick.height, &old.height).is_lt()) {
+    // By a match, which doesn't copy the best pair so far: this runs for every pair.
+    let is_smaller = match best {
+        None => true,
+        Some(old) => order.compare(&pick.height, &old.height).is_lt(),
+    };
+    if is_smaller {
         *best = Some(pick);
     }
 }
