@@ -5,6 +5,7 @@ use choice::choose::{Task, choose};
 use field::Field;
 use monomial::division::Division;
 use monomial::order::Order;
+use polynomial::ring::Ring;
 
 #[derive(Clone, Copy)]
 struct Measuring<'a> {
@@ -20,12 +21,10 @@ impl Task for Measuring<'_> {
 
     fn run<F: Field + Copy + Drop, O: Order + Copy + Drop, D: Division + Copy + Drop>(
         self,
-        field: F,
-        order: O,
+        ring: Ring<F, O>,
         division: D,
-        variables: usize,
     ) -> anyhow::Result<Figures> {
-        measure(self.rt, field, order, division, variables, self.problem)
+        measure(self.rt, ring, division, self.problem)
     }
 }
 

@@ -10,6 +10,7 @@ use monomial::Monomial;
 use monomial::division::Division;
 use monomial::order::Order;
 use polynomial::check::MOST_TERMS;
+use polynomial::ring::Ring;
 use polynomial::term::Term;
 use sheet::sheet::Sheet;
 use std::time::Instant;
@@ -106,19 +107,17 @@ fn repeat_remainder<C: Calls>(
     nanoseconds_since(rt, start)
 }
 
-// The figures of a problem over this field, order and division.
+// The figures of a problem over this ring and division.
 pub(crate) fn measure<F: Field + Copy + Drop, O: Order + Copy + Drop, D: Division + Copy + Drop>(
     rt: &HostRuntime,
-    field: F,
-    order: O,
+    ring: Ring<F, O>,
     division: D,
-    variables: usize,
     problem: &Problem,
 ) -> anyhow::Result<Figures> {
     let heap = rt.alloc();
     let generators = problem.generators.as_slice();
     let new_sheet = || {
-        Sheet::new(heap, field, order, division, variables).map_err(|_| anyhow!(
+        Sheet::new(heap, ring, division).map_err(|_| anyhow!(
             "a sheet could not be made"
         ))
     };

@@ -9,6 +9,8 @@ use Rattle.calls.specs.declared.refusal.Refusal.TheVariants.{Polynomial, Wide, L
 use Rattle.calls.specs.declared.answer.Step.{Step}
 use Rattle.calls.specs.declared.answer.Step.TheVariants.{Closed, Marked, Appended}
 use Rattle.calls.specs.declared.answer.Copied.{Copied}
+use Rattle.calls.specs.declared.answer.Verdict.{Verdict}
+use Rattle.calls.specs.declared.answer.Verdict.TheVariants.{Possible, Impossible}
 
 abbrev pub told : Refusal → Reduction.Refusal
 told (Polynomial unfit) = fault_refusal unfit
@@ -39,6 +41,11 @@ abbrev pub copied : Result Copied Refusal → Answer
 copied (Ok c) = copied_answer c.rows c.bytes
 copied (Err r) = denied (told r)
 
-abbrev pub judged : Result ℕ Refusal → Answer
-judged (Ok v) = verdict_answer v
+-- a verdict is 1 where 1 lies in the ideal
+abbrev pub judgement : Verdict → ℕ
+judgement Possible = 0
+judgement Impossible = 1
+
+abbrev pub judged : Result Verdict Refusal → Answer
+judged (Ok v) = verdict_answer (judgement v)
 judged (Err r) = denied (told r)

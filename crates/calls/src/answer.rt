@@ -1,5 +1,8 @@
+ghost use Rattle.std.specs.Prelude.{◌≡◌};
+ghost use Rattle.calls.specs.Told.{judgement};
+
 // What a granted step did.
-#[derive(Clone, Copy)]
+#[derive(Clone, Copy, PartialEq, Eq, Debug)]
 pub enum Step {
     // Every pair is marked, so there is nothing to do.
     Closed,
@@ -13,8 +16,29 @@ pub enum Step {
 pub const MOST_COPY_BYTES: usize = 11552;
 
 // How many rows a fair copy has, and how many bytes were written.
-#[derive(Clone, Copy)]
+#[derive(Clone, Copy, PartialEq, Eq, Debug)]
 pub struct Copied {
     pub rows: usize,
     pub bytes: usize,
+}
+
+// Whether the rules of a closed sheet can all be met.
+#[derive(Clone, Copy, PartialEq, Eq, Debug)]
+pub enum Verdict {
+    // 1 does not lie in the ideal.
+    Possible,
+    // 1 lies in the ideal, so nothing meets all the rules.
+    Impossible,
+}
+
+impl Verdict {
+    // The number by which the formats name the verdict.
+    pub fn number(&self) -> usize
+        ensures { result ≡ judgement self.now }
+    {
+        match self {
+            Verdict::Possible => 0,
+            Verdict::Impossible => 1,
+        }
+    }
 }

@@ -7,7 +7,7 @@ ghost use Rattle.involutive.specs.Sound.{Sound};
 ghost use Rattle.calls.specs.Logs.{LoggedAdd, Logged};
 ghost use Rattle.calls.specs.Told.{added, stepped, wrote, copied, judged};
 
-use crate::answer::{Copied, Step};
+use crate::answer::{Copied, Step, Verdict};
 use crate::refusal::Refusal;
 use polynomial::term::Term;
 
@@ -55,7 +55,7 @@ pub trait Calls {
         ensures answer { Sound (setting self.old) (state self.old) → FairCopies (setting self.old) (state self.old) out.old (copied result) out.new }
         ensures logged { Sound (setting self.old) (state self.old) → Logged (setting self.old) (log_of.fair_copy out.old) (state self.old) (state self.new) };
 
-    fn verdict(&self) -> Result<usize, Refusal>
+    fn verdict(&self) -> Result<Verdict, Refusal>
         ensures answer { Sound (setting self.now) (state self.now) → Judges (setting self.now) (state self.now) (judged result) }
         ensures logged { Sound (setting self.now) (state self.now) → Logged (setting self.now) log_of.verdict (state self.now) (state self.now) };
 

@@ -4,7 +4,7 @@ ghost use Rattle.calls.specs.Told.{told};
 
 use polynomial::refusal::Refusal as Unfit;
 
-#[derive(Clone, Copy)]
+#[derive(Clone, Copy, PartialEq, Eq, Debug)]
 pub enum Refusal {
     // The polynomial that was handed over fails a check.
     Polynomial(Unfit),

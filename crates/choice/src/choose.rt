@@ -18,8 +18,9 @@ use monomial::janet::Janet;
 use monomial::lexicographic::Lexicographic;
 use monomial::order::Order;
 use monomial::thomas::Thomas;
+use polynomial::ring::Ring;
 
-// Something that can be done under any field, order and division, in any number of variables. What comes of it is what
+// Something that can be done over any ring and division. What comes of it is what
 // `gives` says.
 pub trait Task: Drop {
     type Done;
@@ -28,12 +29,10 @@ pub trait Task: Drop {
 
     fn run<F: Field + Copy + Drop, O: Order + Copy + Drop, D: Division + Copy + Drop>(
         self,
-        field: F,
-        order: O,
+        ring: Ring<F, O>,
         division: D,
-        variables: usize,
     ) -> Self::Done
-        ensures { gives self (F.Field.meaning field) (O.Order.meaning order) (D.Division.meaning division) variables result };
+        ensures { gives self (F.Field.meaning ring.field) (O.Order.meaning ring.order) (D.Division.meaning division) ring.variables result };
 }
 
 // What the task comes to under the field, the order and the division that the operands name, in 1 to 6 variables; or the
@@ -91,11 +90,15 @@ fn choose_division<T: Task, F: Field + Copy + Drop, O: Order + Copy + Drop>(
 ) -> Result<T::Done, Unnamed>
     ensures { Chosen (T.gives task) operands.variables (the (F.Field.meaning field)) true (the (O.Order.meaning order)) (division_of operands.division) result }
 {
-    let variables = usize::from(operands.variables);
+    let ring = Ring {
+        field,
+        order,
+        variables: usize::from(operands.variables),
+    };
     if operands.division == <Janet as Division>::CODE {
-        Ok(task.run(field, order, Janet, variables))
+        Ok(task.run(ring, Janet))
     } else if operands.division == <Thomas as Division>::CODE {
-        Ok(task.run(field, order, Thomas, variables))
+        Ok(task.run(ring, Thomas))
     } else {
         Err(Unnamed::Division)
     }

@@ -8,6 +8,7 @@ use field::Field;
 use monomial::Monomial;
 use monomial::division::Division;
 use monomial::order::Order;
+use polynomial::ring::Ring;
 use std::cmp::Ordering;
 use std::test::Fail;
 
@@ -36,19 +37,17 @@ impl Task for Look {
 
     fn run<F: Field + Copy + Drop, O: Order + Copy + Drop, D: Division + Copy + Drop>(
         self,
-        field: F,
-        order: O,
+        ring: Ring<F, O>,
         division: D,
-        variables: usize,
     ) -> Seen {
         let square = monomial([0, 2, 0, 0, 0, 0]);
         let list = [monomial([1, 0, 0, 0, 0, 0]), monomial([0, 1, 0, 0, 0, 0])];
         Seen {
-            size: field.size(),
-            first: order.compare(&list[0], &square),
-            second: order.compare(&monomial([1, 0, 1, 0, 0, 0]), &square),
+            size: ring.field.size(),
+            first: ring.order.compare(&list[0], &square),
+            second: ring.order.compare(&monomial([1, 0, 1, 0, 0, 0]), &square),
             multiplicative: division.multiplicative(&list, 1, 2),
-            variables,
+            variables: ring.variables,
         }
     }
 }

@@ -1,5 +1,5 @@
 // What the operands of a sheet command do not name.
-ghost use Rattle.std.specs.Prelude.{Some as the};
+ghost use Rattle.std.specs.Prelude.{◌≡◌, Some as the};
 ghost use Rattle.choice.specs.Unnamed.{unnamed_text};
 
 use std::error::Error;
@@ -18,16 +18,25 @@ pub enum Unnamed {
     Division,
 }
 
-impl fmt::Display for Unnamed {
-    ghost output = { λ unnamed. the (unnamed_text unnamed) };
-
-    fn fmt<W: fmt::Write>(&self, f: &mut fmt::Formatter<W>) -> fmt::Result {
-        f.write_str(match self {
+impl Unnamed {
+    // What is missing, in words.
+    pub fn describe(&self) -> &'static str
+        ensures { result.now ≡ unnamed_text self.now }
+    {
+        match self {
             Unnamed::Field => "no such field",
             Unnamed::Variables => "not 1 to 6 variables",
             Unnamed::Order => "no such order",
             Unnamed::Division => "no such division",
-        })
+        }
+    }
+}
+
+impl fmt::Display for Unnamed {
+    ghost output = { λ unnamed. the (unnamed_text unnamed) };
+
+    fn fmt<W: fmt::Write>(&self, f: &mut fmt::Formatter<W>) -> fmt::Result {
+        f.write_str(self.describe())
     }
 }
 

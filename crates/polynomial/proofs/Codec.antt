@@ -7,10 +7,9 @@ use Rattle.polynomial.specs.declared.term.Term.{Term}
 use Rattle.monomial.specs.Monomial.{Wide}
 use Rattle.polynomial.specs.Polynomial.{Poly, exponents}
 use Rattle.polynomial.specs.Bytes.{term_bytes, poly_bytes}
-use Rattle.polynomial.specs.declared.bytes.Run.{Run}
 use Rattle.polynomial.specs.declared.bytes.NoRun.{NoRun}
 use Rattle.polynomial.specs.declared.bytes.NoRun.TheVariants.{Cut as CutAt, Memory}
-use Rattle.polynomial.specs.Reading.{Wides, StartsNoTerm, EndsInside, ReadsRun, IsRun, ReadsBack}
+use Rattle.polynomial.specs.Reading.{Wides, StartsNoTerm, EndsInside, Run, ReadsRun, IsRun, ReadsBack}
 
 -- one term more at the end
 pub bytes_push : (f : Poly) (t : Term) → poly_bytes (f ++ (t ∷ [])) ≡ poly_bytes f ++ term_bytes t
@@ -87,6 +86,6 @@ module _ (x y : List ℕ) (ends : StartsNoTerm y) where
 
 -- what is read of bytes that hold a run
 pub reads_back : (bytes rest : List ℕ) (f : Poly) (r : Result Run NoRun) → ReadsRun bytes r → IsRun bytes f rest → ReadsBack r f rest
-reads_back bytes rest f (Ok run) h k = run_once run.rest.now rest k.ends (vec_items run.terms) f h.wide k.wide h.ends (sym h.written ∙ k.written)
+reads_back bytes rest f (Ok run) h k = run_once run.1.now rest k.ends (vec_items run.0) f h.wide k.wide h.ends (sym h.written ∙ k.written)
 reads_back bytes rest f (Err (CutAt offset)) h k = run_not_cut h.rest rest k.ends h.terms f h.wide k.wide h.ends (sym h.written ∙ k.written)
 reads_back bytes rest f (Err Memory) h k = tt

@@ -1,11 +1,11 @@
 -- Reading bytes as terms: what is read is what would be written.
-use Rattle.std.specs.Prelude.{◌≡◌, ℕ, ◌<◌, List, ◌++◌, length, Some, None, Ok, Err, vec_items, Option, Result, slice_index}
+use Rattle.std.specs.Prelude.{◌≡◌, ℕ, ◌<◌, List, ◌++◌, length, Some, None, Ok, Err, vec_items, Option, Result, Vec, slice_index}
 use mathlib.Core.List.{Memᴰ}
 use Rattle.std.specs.Borrow.{Bor}
+use Rattle.std.specs.declared.alloc.Global.{Global}
 use Rattle.monomial.specs.Monomial.{Wide}
 use Rattle.polynomial.specs.declared.term.Term.{Term}
 use Rattle.polynomial.specs.declared.bytes.Cut.{Cut}
-use Rattle.polynomial.specs.declared.bytes.Run.{Run}
 use Rattle.polynomial.specs.declared.bytes.NoRun.{NoRun}
 use Rattle.polynomial.specs.declared.bytes.NoRun.TheVariants.{Cut as CutAt, Memory}
 use Rattle.polynomial.specs.Polynomial.{Poly, exponents}
@@ -44,13 +44,17 @@ pub record IsCut (bytes : List ℕ) (offset : ℕ) : Type 0 where
   pub place : offset ≡ length (poly_bytes terms)
   pub ends : EndsInside rest
 
+-- a run and the bytes behind it
+abbrev pub Run : Type 0
+Run = Vec Term Global × Bor (List ℕ)
+
 abbrev pub ReadsRun : List ℕ → Result Run NoRun → Type 0
-ReadsRun bytes (Ok run) = IsRun bytes (vec_items run.terms) run.rest.now
+ReadsRun bytes (Ok run) = IsRun bytes (vec_items run.0) run.1.now
 ReadsRun bytes (Err (CutAt offset)) = IsCut bytes offset
 ReadsRun bytes (Err Memory) = Unit {0}
 
 -- a run that stands in the bytes is the one that is read
 abbrev pub ReadsBack : Result Run NoRun → Poly → List ℕ → Type 0
-ReadsBack (Ok run) f rest = (vec_items run.terms ≡ f) × (run.rest.now ≡ rest)
+ReadsBack (Ok run) f rest = (vec_items run.0 ≡ f) × (run.1.now ≡ rest)
 ReadsBack (Err (CutAt offset)) f rest = ⊥
 ReadsBack (Err Memory) f rest = Unit {0}

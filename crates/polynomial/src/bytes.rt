@@ -6,7 +6,7 @@ ghost use Rattle.polynomial.specs.declared.bytes.NoRun.TheVariants.{Memory};
 ghost use Rattle.polynomial.specs.Reading.{ReadsTerm, ReadsRun, IsRun, ReadsBack};
 
 use crate::term::Term;
-use monomial::{Monomial, WIDTH};
+use monomial::WIDTH;
 use std::alloc::{AllocFailed, Global};
 
 // How many bytes a term takes.
@@ -22,12 +22,7 @@ pub fn read_term(input: &[u8]) -> Result<Option<(Term, &[u8])>, Cut>
 {
     match input {
         [0x01, high, low, a, b, c, d, e, f, behind @ ..] => {
-            let term = Term {
-                coefficient: u16::from_be_bytes([*high, *low]),
-                monomial: Monomial {
-                    exponents: [*a, *b, *c, *d, *e, *f],
-                },
-            };
+            let term = Term::from_bytes(&[*high, *low, *a, *b, *c, *d, *e, *f]);
             Ok(Some((term, behind)))
         }
         [0x01, ..] => Err(Cut),
@@ -42,13 +37,6 @@ pub fn term_bytes(term: &Term) -> [u8; TERM_BYTES]
     let [high, low] = term.coefficient.to_be_bytes();
     let [a, b, c, d, e, f] = term.monomial.exponents;
     [0x01, high, low, a, b, c, d, e, f]
-}
-
-// A run of terms, and the bytes behind it.
-#[derive(Drop)]
-pub struct Run<'a> {
-    pub terms: Vec<Term>,
-    pub rest: &'a [u8],
 }
 
 // Why no run is read.
@@ -68,8 +56,8 @@ impl<T: Drop> From<AllocFailed<T>> for NoRun {
     }
 }
 
-// The terms at the front, up to the first byte that begins no term.
-pub fn read_run(heap: Global, input: &[u8]) -> Result<Run<'_>, NoRun>
+// The run of terms at the front and the bytes behind it, of which the first begins no term.
+pub fn read_run(heap: Global, input: &[u8]) -> Result<(Vec<Term>, &[u8]), NoRun>
     ensures run { ReadsRun input.now result }
     ensures back { (f : Poly) (rest : List ℕ) → IsRun input.now f rest → ReadsBack result f rest }
 {
@@ -81,7 +69,7 @@ pub fn read_run(heap: Global, input: &[u8]) -> Result<Run<'_>, NoRun>
         terms.push(term)?;
         rest = behind;
     }
-    Ok(Run { terms, rest })
+    Ok((terms, rest))
 }
 
 // Too few bytes were lent.

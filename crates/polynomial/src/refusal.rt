@@ -1,5 +1,9 @@
-ghost use Rattle.std.specs.Prelude.{◌≡◌};
+ghost use Rattle.std.specs.Prelude.{◌≡◌, Some as the};
 ghost use Rattle.polynomial.specs.Check.{number as number_of, place as place_of};
+ghost use Rattle.polynomial.specs.Words.{refusal_text};
+
+use std::error::Error;
+use std::fmt;
 
 // Why a polynomial that is handed over is refused; a term is named by its number, from 1.
 #[derive(Clone, Copy, PartialEq, Eq, Debug)]
@@ -38,4 +42,26 @@ impl Refusal {
             Refusal::NotFalling(term) => *term,
         }
     }
+
+    // What is wrong, in words.
+    pub fn describe(&self) -> &'static str
+        ensures { result.now ≡ refusal_text self.now }
+    {
+        match self {
+            Refusal::TooManyTerms => "more than 40 terms",
+            Refusal::Coefficient(_) => "coefficient is 0 or no code",
+            Refusal::Exponent(_) => "exponent out of range",
+            Refusal::NotFalling(_) => "term does not fall",
+        }
+    }
 }
+
+impl fmt::Display for Refusal {
+    ghost output = { λ refusal. the (refusal_text refusal) };
+
+    fn fmt<W: fmt::Write>(&self, f: &mut fmt::Formatter<W>) -> fmt::Result {
+        f.write_str(self.describe())
+    }
+}
+
+impl Error for Refusal {}

@@ -88,7 +88,7 @@ fn writes_to_the_front(rt: HostRuntime) {
 fn reads_at_every_length(rt: HostRuntime) -> Result<(), Fail> {
     for n in 0..19usize {
         match read_run(rt.alloc(), &TWO_TERMS[0..n]) {
-            Ok(run) => assert!(rt; n % 9 == 0 && run.terms.len() == n / 9 && run.rest.len() == 0),
+            Ok((terms, rest)) => assert!(rt; n % 9 == 0 && terms.len() == n / 9 && rest.len() == 0),
             Err(NoRun::Cut(at)) => assert!(rt; n % 9 != 0 && at == n / 9 * 9),
             Err(NoRun::Memory) => return Err(Fail::new("no memory")),
         }

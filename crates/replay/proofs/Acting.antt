@@ -1,8 +1,6 @@
 -- What each command comes to, from the sheet's answer and the text that was written.
 use Rattle.std.proofs.Common.{◌≡◌, ℕ, ◌≤◌, List, [], ◌∷◌, ◌++◌, length, get_or, IfOk, Ok, Err, Option, Result, sym, refl, ap, ◌∙◌, subst, append-nil, Bor}
 use Rattle.involutive.specs.Reduction.{Refusal}
-use Rattle.calls.specs.declared.refusal.Refusal.{Refusal as Denial}
-use Rattle.calls.specs.Told.{added, judged}
 use Rattle.replay.specs.declared.command.Command.{Command}
 use Rattle.replay.specs.declared.command.Command.TheVariants.{Term as CommandTerm}
 use Rattle.replay.specs.Grammar.{byte_of, operands_of}
@@ -21,11 +19,6 @@ made_then (Err y) p f = tt
 -- a text that is added in other words
 pub told_as : (before : List ℕ) {after t u : List ℕ} → after ≡ before ++ t → t ≡ u → after ≡ before ++ u
 told_as before e q = e ∙ ap (λ x. before ++ x) q
-
--- the line of a verdict is made as that of an add
-pub judged_line : (at b : ℕ) (r : Result ℕ Denial) → answered at b (added r) ≡ answered at b (judged r)
-judged_line at b (Ok n) = refl
-judged_line at b (Err r) = refl
 
 module _ {S : Setting} {s : State} {g : Poly} {at : ℕ} {before after : List ℕ} where
   pub acts_term : {ops : List ℕ} {g' : Poly} → g' ≡ gather g (term_of ops) → after ≡ before → Acts S s g at 1 ops s g' before after

@@ -12,6 +12,7 @@ use choice::unnamed::Unnamed;
 use field::Field;
 use monomial::division::Division;
 use monomial::order::Order;
+use polynomial::ring::Ring;
 use sheet::sheet::Sheet;
 use sheet::unmade::Unmade;
 use std::alloc::{AllocError, Global};
@@ -30,12 +31,10 @@ impl Task for Opening<'_> {
 
     fn run<F: Field + Copy + Drop, O: Order + Copy + Drop, D: Division + Copy + Drop>(
         self,
-        field: F,
-        order: O,
+        ring: Ring<F, O>,
         division: D,
-        variables: usize,
     ) -> Result<Vec<u8>, AllocError> {
-        match Sheet::new(self.heap, field, order, division, variables) {
+        match Sheet::new(self.heap, ring, division) {
             Ok(mut sheet) => run(self.heap, &mut sheet, self.rest),
             // Not where there are 1 to 6 variables.
             Err(Unmade::Variables) => text_of(self.heap, not_made(Unnamed::Variables)),

@@ -3,7 +3,7 @@ ghost use Rattle.std.specs.Prelude.{◌≡◌, ◌<◌, length, take, drop};
 ghost use Rattle.replay.specs.Grammar.{Reads, byte_of, fault_byte, fault_number};
 
 // A command and its operands, which are parts of the input.
-#[derive(Clone, Copy)]
+#[derive(Clone, Copy, PartialEq, Eq, Debug)]
 pub enum Command<'a> {
     Sheet(&'a [u8; 6]),
     Term(&'a [u8; 8]),
@@ -16,15 +16,19 @@ pub enum Command<'a> {
 }
 
 impl Command<'_> {
+    // The bytes of the two commands by which more is decided than which call is made.
+    pub(crate) const SHEET: u8 = 0;
+    pub(crate) const STEPS: u8 = 3;
+
     // The byte of the command.
     pub(crate) fn byte(&self) -> u8
         ensures { result ≡ byte_of self.now }
     {
         match self {
-            Command::Sheet(_) => 0,
+            Command::Sheet(_) => Self::SHEET,
             Command::Term(_) => 1,
             Command::Add => 2,
-            Command::Steps(_) => 3,
+            Command::Steps(_) => Self::STEPS,
             Command::Remainder => 4,
             Command::Row(_) => 5,
             Command::FairCopy => 6,
@@ -34,7 +38,7 @@ impl Command<'_> {
 }
 
 // Why a command is not carried out.
-#[derive(Clone, Copy)]
+#[derive(Clone, Copy, PartialEq, Eq, Debug)]
 pub enum Fault {
     // The byte is no command's.
     Unknown(u8),

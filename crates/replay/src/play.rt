@@ -11,7 +11,7 @@ ghost use Rattle.replay.specs.Grammar.{byte_of, operands_of, ReadsCall};
 ghost use Rattle.replay.specs.Replay.{Stepping, Acts, Ran, Starts, granted};
 
 use crate::command::{Command, Fault, next};
-use crate::tell::{Steps, answered, copied, made, refused, shown, stepped};
+use crate::tell::{Steps, added, copied, judged, made, refused, shown, stepped};
 use calls::answer::{MOST_COPY_BYTES, Step};
 use calls::calls::Calls;
 use choice::operands::SHEET_BYTES;
@@ -28,7 +28,7 @@ fn next_call<'a>(input: &'a [u8]) -> Result<Option<(Command<'a>, &'a [u8])>, Fau
     ensures { ReadsCall input.now result }
 {
     match next(input)? {
-        Some((Command::Sheet(_), _)) => Err(Fault::Misplaced(0)),
+        Some((Command::Sheet(_), _)) => Err(Fault::Misplaced(Command::SHEET)),
         found => Ok(found),
     }
 }
@@ -104,7 +104,7 @@ impl Replay {
     {
         let answer = sheet.add(self.gathered.as_slice());
         self.gathered.clear();
-        answered(at, Command::Add, answer).write_to(&mut self.text)
+        added(at, answer).write_to(&mut self.text)
     }
 
     fn steps<C: Calls>(
@@ -148,7 +148,7 @@ impl Replay {
         ensures acts { OnOk result (Sound (C.Calls.setting sheet.now) (C.Calls.state sheet.now) → Acts (C.Calls.setting sheet.now) (C.Calls.state sheet.now) self.old.gathered.items at 7 [] (C.Calls.state sheet.now) self.new.gathered.items self.old.text.items self.new.text.items) }
     {
         let answer = sheet.verdict();
-        answered(at, Command::Verdict, answer).write_to(&mut self.text)
+        judged(at, answer).write_to(&mut self.text)
     }
 
     fn act<C: Calls>(

@@ -38,23 +38,17 @@ impl<F: Field + Drop, O: Order + Drop, D: Division + Drop> Sheet<F, O, D> {
     // A sheet without rows.
     pub fn new(
         heap: Global,
-        field: F,
-        order: O,
+        ring: Ring<F, O>,
         division: D,
-        variables: usize,
     ) -> Result<Sheet<F, O, D>, Unmade>
-        ensures made { MatchResult result (λ x. Begins (setting_of (F.Field.meaning field) (O.Order.meaning order) (D.Division.meaning division) variables) (setting_of (F.Field.meaning x.ring.field) (O.Order.meaning x.ring.order) (D.Division.meaning x.division) x.ring.variables) (state_of x.table.rows.items (rows_of x.marks))) (Denies variables) }
+        ensures made { MatchResult result (λ x. Begins (setting_of (F.Field.meaning ring.field) (O.Order.meaning ring.order) (D.Division.meaning division) ring.variables) (setting_of (F.Field.meaning x.ring.field) (O.Order.meaning x.ring.order) (D.Division.meaning x.division) x.ring.variables) (state_of x.table.rows.items (rows_of x.marks))) (Denies ring.variables) }
     {
-        if variables == 0 || variables > WIDTH {
+        if ring.variables == 0 || ring.variables > WIDTH {
             return Err(Unmade::Variables);
         }
         let memory = take_memory(heap).map_err(|_| Unmade::Memory)?;
         Ok(Sheet {
-            ring: Ring {
-                field,
-                order,
-                variables,
-            },
+            ring,
             division,
             table: memory.table,
             marks: Marks::none(),

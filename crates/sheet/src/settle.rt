@@ -22,7 +22,7 @@ use reduction::refusal::{Denied, Reason};
 use reduction::table::Row;
 
 // What became of a polynomial that was reduced.
-#[derive(Clone, Copy)]
+#[derive(Clone, Copy, PartialEq, Eq, Debug)]
 pub(crate) enum Settled {
     // It reduced to zero.
     Nothing,

@@ -7,7 +7,7 @@ use crate::put::put;
 use crate::settle::reduce;
 use crate::sheet::{Sheet, take};
 use crate::unit::leads_with_one;
-use calls::answer::{Copied, Step};
+use calls::answer::{Copied, Step, Verdict};
 use calls::calls::Calls;
 use calls::refusal::Refusal;
 use field::Field;
@@ -73,15 +73,15 @@ impl<F: Field, O: Order, D: Division> Calls for Sheet<F, O, D> {
         )
     }
 
-    // 1, impossible, where 1 lies in the ideal: then a row of a closed sheet leads with 1.
-    fn verdict(&self) -> Result<usize, Refusal> {
+    // Impossible where 1 lies in the ideal: then a row of a closed sheet leads with 1.
+    fn verdict(&self) -> Result<Verdict, Refusal> {
         if !self.is_closed() {
             return Err(Refusal::NotClosed);
         }
         if leads_with_one(self.table.rows.as_slice()) {
-            Ok(1)
+            Ok(Verdict::Impossible)
         } else {
-            Ok(0)
+            Ok(Verdict::Possible)
         }
     }
 }

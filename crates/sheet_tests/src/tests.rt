@@ -1,4 +1,4 @@
-use calls::answer::Step;
+use calls::answer::{Step, Verdict};
 use calls::calls::Calls;
 use calls::refusal::Refusal;
 use field::Field;
@@ -6,6 +6,7 @@ use field::prime::Prime;
 use monomial::Monomial;
 use monomial::janet::Janet;
 use monomial::lexicographic::Lexicographic;
+use polynomial::ring::Ring;
 use polynomial::term::Term;
 use sheet::sheet::Sheet;
 use sheet::unmade::Unmade;
@@ -27,7 +28,14 @@ fn term(coefficient: u16, a: u8, b: u8) -> Term {
 fn make(heap: Global, variables: usize) -> Result<Rules, Unmade> {
     match Prime::new(3) {
         None => Err(Unmade::Memory),
-        Some(field) => Sheet::new(heap, field, Lexicographic, Janet, variables),
+        Some(field) => {
+            let ring = Ring {
+                field,
+                order: Lexicographic,
+                variables,
+            };
+            Sheet::new(heap, ring, Janet)
+        }
     }
 }
 
@@ -122,7 +130,7 @@ fn a_refused_add_leaves_the_sheet_closed(rt: HostRuntime) -> Result<(), Fail> {
             assert_eq!(rt; told(sheet.add(&[term(3, 1, 0)])), (6, 1));
             match sheet.verdict() {
                 Ok(verdict) => {
-                    assert_eq!(rt; verdict, 0);
+                    assert_eq!(rt; verdict, Verdict::Possible);
                     Ok(())
                 },
                 Err(_) => Err(Fail::new("the sheet is open")),

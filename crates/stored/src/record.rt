@@ -4,7 +4,7 @@ ghost use Rattle.stored.specs.Record.{ReadsRecord, WithinFile, fault_of};
 
 use crate::fault::{Fault, Reason};
 use crate::rest::Rest;
-use polynomial::bytes::{NoRun, Run, read_run};
+use polynomial::bytes::{NoRun, read_run};
 use polynomial::term::Term;
 use std::alloc::Global;
 
@@ -31,7 +31,7 @@ pub(crate) fn read_record(heap: Global, rest: Rest<'_>) -> Result<Record<'_>, Fa
     ensures { ReadsRecord rest.entry result }
 {
     // By a match: a closure for `map_err` would have to say again what the offset needs.
-    let Run { terms, rest: end } = match read_run(heap, rest.bytes) {
+    let (terms, end) = match read_run(heap, rest.bytes) {
         Ok(run) => run,
         Err(why) => return Err(run_fault(why, rest.offset)),
     };

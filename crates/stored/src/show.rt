@@ -42,16 +42,9 @@ impl Task for Showing<'_> {
 
     fn run<F: Field + Copy + Drop, O: Order + Copy + Drop, D: Division + Copy + Drop>(
         self,
-        field: F,
-        order: O,
+        ring: Ring<F, O>,
         division: D,
-        variables: usize,
     ) -> Result<String, Fault> {
-        let ring = Ring {
-            field,
-            order,
-            variables,
-        };
         let rows = read_rows(self.heap, &ring, self.records)?;
         let leaders = leaders_of(self.heap, &rows)?;
         let table = Table {

@@ -9,14 +9,14 @@ returns-in-Err c =
 
 pub returns-in-empty : goal.returns-in-empty
 returns-in-empty c = (
-  length c.args.rest.bytes.now - length c.in-Ok.run'.rest.now,
+  length c.args.rest.bytes.now - length c.in-Ok.end.now,
   refl,
-  open_run c.args.rest.bytes.now c.in-Ok.run'.rest.now (vec_items c.in-Ok.run'.terms) c.in-Ok.ensures.run (omega (arith, ltb-true)),
+  open_run c.args.rest.bytes.now c.in-Ok.end.now (vec_items c.in-Ok.terms) c.in-Ok.ensures.run (omega (arith, ltb-true)),
 )
 
 pub returns-in-len1-up : goal.returns-in-len1-up
 returns-in-len1-up c = (
-  length c.args.rest.bytes.now - length c.in-Ok.run'.rest.now,
+  length c.args.rest.bytes.now - length c.in-Ok.end.now,
   refl,
-  other_run c.args.rest.bytes.now c.in-Ok.run'.rest.now (vec_items c.in-Ok.run'.terms) c.in-Ok.ensures.run (omega (arith, ltb-false)) (omega arith),
+  other_run c.args.rest.bytes.now c.in-Ok.end.now (vec_items c.in-Ok.terms) c.in-Ok.ensures.run (omega (arith, ltb-false)) (omega arith),
 )

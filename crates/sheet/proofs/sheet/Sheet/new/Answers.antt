@@ -8,7 +8,7 @@ use Rattle.sheet.proofs.sheet.Sheet.new.Goals as goal
 
 pub returns : goal.returns
 returns g c =
-    let x = c.args in
-    let S = setting (g.F.Field.meaning x.field) (g.O.Order.meaning x.order) (g.D.Division.meaning x.division) x.variables in
-    let W : Lawful S = record { field = g.met.F.Field.laws x.field; order = g.met.O.Order.laws x.order; division = g.met.D.Division.laws x.division; variables = (omega arith, omega arith) } in
+    let x = c.args.ring in
+    let S = setting (g.F.Field.meaning x.field) (g.O.Order.meaning x.order) (g.D.Division.meaning c.args.division) x.variables in
+    let W : Lawful S = record { field = g.met.F.Field.laws x.field; order = g.met.O.Order.laws x.order; division = g.met.D.Division.laws c.args.division; variables = (omega arith, omega arith) } in
     record { made = begins S W (vec_items c.in_ok-memory.memory.table.rows) (rows_of c.none.result) (kept_ok c.take_memory.result c.map_err.result _ (λ m. vec_items m.table.rows ≡ []) c.map_err.ensures.cases c.take_memory.ensures c.in_ok-memory.memory c.in_ok-memory.was) c.none.ensures }
