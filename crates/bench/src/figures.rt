@@ -74,35 +74,17 @@ fn repeat_completing<C: Calls + Drop, M: Fn() -> anyhow::Result<C>>(
     Ok(sum)
 }
 
-// The fair copy of a complete sheet.
-fn repeat_copying<C: Calls>(
+// Doing the same work again and again.
+fn repeat<T: Drop, W: FnMut() -> anyhow::Result<T>>(
     rt: &HostRuntime,
-    sheet: &mut C,
-    out: &mut [u8],
+    mut work: W,
     times: u64,
-) -> anyhow::Result<u64> {
+) -> anyhow::Result<u64>
+    requires { W.IsAlwaysCallable work }
+{
     let start = Instant::now(rt)?;
     for _ in 0..times {
-        let _ = sheet
-            .fair_copy(out)
-            .map_err(|_| anyhow!("a fair copy was refused"))?;
-    }
-    nanoseconds_since(rt, start)
-}
-
-// The remainder of a polynomial by a complete sheet.
-fn repeat_remainder<C: Calls>(
-    rt: &HostRuntime,
-    sheet: &mut C,
-    probe: &[Term],
-    out: &mut [Term],
-    times: u64,
-) -> anyhow::Result<u64> {
-    let start = Instant::now(rt)?;
-    for _ in 0..times {
-        let _ = sheet
-            .remainder(probe, out)
-            .map_err(|_| anyhow!("a remainder was refused"))?;
+        let _ = work()?;
     }
     nanoseconds_since(rt, start)
 }
@@ -125,14 +107,28 @@ pub(crate) fn measure<F: Field + Copy + Drop, O: Order + Copy + Drop, D: Divisio
     let mut sheet = new_sheet()?;
     let size = complete(&mut sheet, generators)?;
     let mut bytes = vec![in heap; 0u8; MOST_COPY_BYTES]?;
-    let copying = time(|times| repeat_copying(rt, &mut sheet, &mut bytes, times))?;
+    let copying = time(|times| {
+        let copy = || {
+            sheet
+                .fair_copy(&mut bytes)
+                .map_err(|_| anyhow!("a fair copy was refused"))
+        };
+        repeat(rt, copy, times)
+    })?;
     let zero = Term {
         coefficient: 0,
         monomial: Monomial::ONE,
     };
     let mut terms = vec![in heap; zero; MOST_TERMS]?;
     let probe = problem.probe.as_slice();
-    let remainder = time(|times| repeat_remainder(rt, &mut sheet, probe, &mut terms, times))?;
+    let remainder = time(|times| {
+        let remain = || {
+            sheet
+                .remainder(probe, &mut terms)
+                .map_err(|_| anyhow!("a remainder was refused"))
+        };
+        repeat(rt, remain, times)
+    })?;
     Ok(Figures {
         size,
         completing,

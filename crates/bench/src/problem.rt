@@ -45,14 +45,9 @@ impl Problem {
         let mut problem = Problem::new(heap);
         let mut gathered = Vec::new(heap);
         let mut rest = input;
-        // Each command takes a byte at least.
-        for _ in 0..input.len() {
-            let found = next(rest).map_err(|_| anyhow!(
-                "a problem has a command that cannot be read"
-            ))?;
-            let Some((command, after)) = found else {
-                break;
-            };
+        while let Some((command, after)) = next(rest).map_err(|_| anyhow!(
+            "a problem has a command that cannot be read"
+        ))? {
             problem.take_command(&mut gathered, command)?;
             rest = after;
         }
