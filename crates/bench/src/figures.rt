@@ -99,9 +99,7 @@ pub(crate) fn measure<F: Field + Copy + Drop, O: Order + Copy + Drop, D: Divisio
     let heap = rt.alloc();
     let generators = problem.generators.as_slice();
     let new_sheet = || {
-        Sheet::new(heap, ring, division).map_err(|_| anyhow!(
-            "a sheet could not be made"
-        ))
+        Sheet::new(heap, ring, division).map_err(|_| anyhow!("a sheet could not be made"))
     };
     let completing = time(|times| repeat_completing(rt, &new_sheet, generators, times))?;
     let mut sheet = new_sheet()?;

@@ -18,6 +18,7 @@ pub enum Command<'a> {
 impl Command<'_> {
     // The bytes of the two commands by which more is decided than which call is made.
     pub(crate) const SHEET: u8 = 0;
+
     pub(crate) const STEPS: u8 = 3;
 
     // The byte of the command.

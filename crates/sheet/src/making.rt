@@ -36,11 +36,7 @@ fn take_memory(heap: Global) -> Result<Memory, AllocError>
 
 impl<F: Field + Drop, O: Order + Drop, D: Division + Drop> Sheet<F, O, D> {
     // A sheet without rows.
-    pub fn new(
-        heap: Global,
-        ring: Ring<F, O>,
-        division: D,
-    ) -> Result<Sheet<F, O, D>, Unmade>
+    pub fn new(heap: Global, ring: Ring<F, O>, division: D) -> Result<Sheet<F, O, D>, Unmade>
         ensures made { MatchResult result (λ x. Begins (setting_of (F.Field.meaning ring.field) (O.Order.meaning ring.order) (D.Division.meaning division) ring.variables) (setting_of (F.Field.meaning x.ring.field) (O.Order.meaning x.ring.order) (D.Division.meaning x.division) x.ring.variables) (state_of x.table.rows.items (rows_of x.marks))) (Denies ring.variables) }
     {
         if ring.variables == 0 || ring.variables > WIDTH {
