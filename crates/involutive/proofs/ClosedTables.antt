@@ -6,12 +6,10 @@ use mathlib.Core.WellFounded.{Acc}
 use native.Mathlib.Decide.{dec_lt}
 use Rattle.involutive.proofs.Walks
 use Rattle.std.proofs.lemmas.Bool.{cases_eq}
-use Rattle.field.specs.Field.{FieldMeaning}
-use Rattle.monomial.specs.Order.{Compare}
-use Rattle.monomial.specs.Division.{Split, DivisionLaws, Within, Involutive, Next}
+use Rattle.monomial.specs.Division.{Within, Involutive, Next}
 use Rattle.monomial.specs.Monomial.{exponent, variable, times}
 use Rattle.involutive.specs.Value
-use Rattle.polynomial.specs.Polynomial.{Poly, term}
+use Rattle.polynomial.specs.Polynomial.{term}
 use Rattle.involutive.specs.Sheet.{Setting, Lawful}
 use Rattle.involutive.specs.Reduction.{Irreducible, row, leaders, left, Reduces}
 use Rattle.involutive.proofs.Algebra
@@ -19,49 +17,16 @@ use Rattle.involutive.proofs.Algebra.{Base, Span}
 use Rattle.involutive.proofs.Sums
 use Rattle.involutive.proofs.Monomials
 use Rattle.involutive.proofs.Monomials.{Mono}
-use Rattle.involutive.proofs.Typing
-use Rattle.involutive.proofs.Typing.{Ground, ground_of, Code, base, Beneath}
+use Rattle.involutive.proofs.Typing.{ground_of, words, Code, Beneath}
 use Rattle.involutive.proofs.Tables
 use Rattle.involutive.proofs.Tables.{Monic, Good}
 use Rattle.involutive.proofs.WrittenLists
 use Rattle.involutive.proofs.Lists
 
 module _ (S : Setting) (W : Lawful S) where
-  abbrev ground : Ground
-  ground = ground_of S W
-
-  abbrev F : FieldMeaning
-  F = S.field
-
-  abbrev N : ℕ
-  N = S.variables
-
-  abbrev O : Compare
-  O = S.order
-
-  abbrev D : Split
-  D = S.division
-
-  abbrev E : DivisionLaws D
-  E = W.division
-
-  abbrev B : Base
-  B = base W.field N
-
-  abbrev Typed : Type 0
-  Typed = Typing.Typed ground
-
-  abbrev raw : Typed → Poly
-  raw = Typing.raw ground
-
-  abbrev lead : Typed → Mono N
-  lead = Typing.lead ground
-
-  abbrev Sorted : Typed → Type 0
-  Sorted = Algebra.Sorted B (Beneath N O)
-
-  abbrev nth : List Typed → ℕ → Typed
-  nth T k = get_or T (k - 1) []
+  open S use {field as F, variables as N, order as O, division as D}
+  open W use {division as E}
+  open words (ground_of S W) use {ground, B, Typed, raw, lead, Sorted, nth}
 
   module _ (T : List Typed) (G : Good S W T) where
     abbrev U : List (List ℕ)

@@ -4,9 +4,8 @@ use mathlib.Core.List.{Memᴰ}
 use lib.ListN.{length-map}
 use lib.Seq.{take-append_seam}
 use Rattle.polynomial.specs.declared.term.Term.{Term}
-use Rattle.field.specs.Field.{FieldMeaning, FieldLaws}
 use Rattle.monomial.specs.Monomial.{In, Wide, times, quotient, Divides}
-use Rattle.monomial.specs.Order.{Compare, OrderLaws, Under}
+use Rattle.monomial.specs.Order.{Under}
 use Rattle.monomial.specs.Division.{Split, DivisionLaws, Within, Involutive}
 use Rattle.polynomial.specs.Reading.{Wides}
 use Rattle.polynomial.specs.Polynomial.{Poly, Over, term, exponents, Written, leading}
@@ -21,7 +20,7 @@ use Rattle.involutive.specs.Complete.{GrantedCopy, under_division, CopiesDecide}
 use Rattle.monomial.specs.Places.{agree_all, low}
 use Rattle.involutive.proofs.Lists
 use Rattle.involutive.proofs.Monomials
-use Rattle.involutive.proofs.Typing.{Ground, ground_of}
+use Rattle.involutive.proofs.Typing.{ground_of, words}
 use Rattle.involutive.proofs.Ideals
 use Rattle.involutive.proofs.Bytes
 use Rattle.involutive.proofs.Copying.{CopyOf, Beside, no_more, one_more, beside, copy_from, copy_to}
@@ -52,31 +51,17 @@ granted : (S : Setting) (s : State) (b : List ℕ) → GrantedCopy S s b → Cop
 granted S s b G = go G.grant refl G.front
   where
     go : {a : Answer} {after : List ℕ} → FairCopies S s G.out a after → a ≡ copied_answer G.rows (length b) → take (length b) after ≡ b → CopiedBytes S s b
-    go (copy_open n) e d = let z : ◌≡◌ {A = ℕ} 0 1 = cc in absurd (omega arith)
-    go (copy_denied c z m) e d = let z : ◌≡◌ {A = ℕ} 0 1 = cc in absurd (omega arith)
-    go (copy_short c z m l) e d = let z : ◌≡◌ {A = ℕ} 0 1 = cc in absurd (omega arith)
+    go (copy_open n) e d = cc
+    go (copy_denied c z m) e d = cc
+    go (copy_short c z m l) e d = cc
     go (copy_written {ks = ks} {fs = fs} c z m l) e d =
         let n : length (copy_bytes fs) ≡ length b = cc in
         record { ks = ks; fs = fs; selection = z; copied = m; bytes = sym d ∙ ap (λ i. take i (front (copy_bytes fs) G.out)) (sym n) ∙ take-append_seam (copy_bytes fs) (drop (length (copy_bytes fs)) G.out) }
 
 module _ (S : Setting) (W : Lawful S) where
-  abbrev ground : Ground
-  ground = ground_of S W
-
-  abbrev F : FieldMeaning
-  F = S.field
-
-  abbrev L : FieldLaws F
-  L = W.field
-
-  abbrev N : ℕ
-  N = S.variables
-
-  abbrev O : Compare
-  O = S.order
-
-  abbrev Q : OrderLaws O
-  Q = W.order
+  open S use {field as F, variables as N, order as O}
+  open W use {field as L, order as Q}
+  open words (ground_of S W) use {ground}
 
   abbrev set : Split → Setting
   set D = under_division S D

@@ -2,7 +2,7 @@
 use Rattle.std.proofs.Common.{◌≡◌, ℕ, ◌<◌, List, [], ◌∷◌, ◌++◌, map, sym, refl, ap, ◌∙◌, subst, subst₂, ⊎_elim}
 use mathlib.Core.List.Memᴰ
 use mathlib.Core.List.{Memᴰ}
-use Rattle.field.specs.Field.{FieldMeaning, FieldLaws}
+use Rattle.field.specs.Field.{FieldMeaning}
 use Rattle.monomial.specs.Monomial.{In, one, times, Divides}
 use Rattle.polynomial.specs.declared.term.Term.{Term}
 use Rattle.polynomial.specs.Polynomial.{Poly, exponents, Over}
@@ -14,30 +14,15 @@ use Rattle.involutive.proofs.Monomials
 use Rattle.involutive.proofs.Monomials.{Mono}
 use Rattle.involutive.proofs.Typing
 use Rattle.involutive.proofs.Membership
-use Rattle.involutive.proofs.Typing.{Ground, Code, base}
+use Rattle.involutive.proofs.Typing.{Ground, words, Code, base}
 use Rattle.involutive.proofs.Lists
 
 abbrev pub Overs : FieldMeaning → ℕ → List Poly → Type 0
 Overs F N gs = (g : Poly) → Memᴰ g gs → Over F N g
 
 module _ (ground : Ground) where
-  abbrev F : FieldMeaning
-  F = ground.field
-
-  abbrev L : FieldLaws F
-  L = ground.laws
-
-  abbrev N : ℕ
-  N = ground.variables
-
-  abbrev B : Base
-  B = base L N
-
-  abbrev Typed : Type 0
-  Typed = Typing.Typed ground
-
-  abbrev raw : Typed → Poly
-  raw = Typing.raw ground
+  open ground use {field as F, variables as N}
+  open words ground use {B, Typed, raw}
 
   -- what holds of every typed polynomial holds of every polynomial over F
   pub each : (Q : Poly → Type 0) → ((p : Typed) → Q (raw p)) → (f : Poly) → Over F N f → Q f

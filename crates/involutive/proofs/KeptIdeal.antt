@@ -2,9 +2,7 @@
 use Rattle.std.proofs.Common.{ℕ, ◌-◌, ◌<◌, List, [], ◌∷◌, ◌++◌, sym, refl, subst, ⊎_elim, arith}
 use mathlib.Core.List.Memᴰ
 use mathlib.Core.List.{Memᴰ}
-use Rattle.field.specs.Field.{FieldMeaning, FieldLaws}
 use Rattle.monomial.specs.Monomial.{one, variable}
-use Rattle.monomial.specs.Order.{Compare}
 use Rattle.polynomial.specs.declared.term.Term.{Term}
 use Rattle.polynomial.specs.Polynomial.{Poly, Over, Written}
 use Rattle.involutive.specs.Value.{scaled, minus, negated}
@@ -16,7 +14,7 @@ use Rattle.involutive.specs.Log.{Call, After, made, added, not_added, stepped, r
 use Rattle.involutive.specs.Sound.{Sound}
 use Rattle.involutive.specs.Complete.{KeepsIdeal}
 use Rattle.involutive.proofs.Monomials
-use Rattle.involutive.proofs.Typing.{Ground, ground_of}
+use Rattle.involutive.proofs.Typing.{ground_of, words}
 use Rattle.involutive.proofs.Ideals
 use Rattle.involutive.proofs.Ideals.{Overs}
 use Rattle.involutive.proofs.Soundness
@@ -24,20 +22,9 @@ use Rattle.involutive.proofs.Sheets
 use Rattle.involutive.proofs.Lists
 
 module _ (S : Setting) (W : Lawful S) where
-  abbrev ground : Ground
-  ground = ground_of S W
-
-  abbrev F : FieldMeaning
-  F = S.field
-
-  abbrev L : FieldLaws F
-  L = W.field
-
-  abbrev N : ℕ
-  N = S.variables
-
-  abbrev O : Compare
-  O = S.order
+  open S use {field as F, variables as N, order as O}
+  open W use {field as L}
+  open words (ground_of S W) use {ground}
 
   -- the ideal of the rows, and that the generators are polynomials
   pub record Keeps (s : State) (gs : List Poly) : Type 0 where

@@ -1,34 +1,18 @@
 -- A polynomial lies in an ideal exactly when the generators span its value.
-use Rattle.std.proofs.Common.{◌≡◌, ℕ, suc, ◌↔◌, List, [], ◌∷◌, ◌++◌, map, length, sym, refl, ap, ◌∙◌, subst, ⊎_elim, arith}
+use Rattle.std.proofs.Common.{◌≡◌, suc, ◌↔◌, List, [], ◌∷◌, ◌++◌, map, length, sym, refl, ap, ◌∙◌, subst, ⊎_elim, arith}
 use mathlib.Core.List.Memᴰ
 use mathlib.Core.List.{Memᴰ}
-use Rattle.field.specs.Field.{FieldMeaning, FieldLaws}
 use Rattle.polynomial.specs.Polynomial.{Poly, Over}
 use Rattle.involutive.specs.Ideal.{combination, Member, SameIdeal}
 use Rattle.involutive.proofs.Algebra
 use Rattle.involutive.proofs.Algebra.{Base, Span}
 use Rattle.involutive.proofs.Monomials.{Mono}
 use Rattle.involutive.proofs.Typing
-use Rattle.involutive.proofs.Typing.{Ground, Code, base}
+use Rattle.involutive.proofs.Typing.{Ground, words, Code, base}
 
 module _ (ground : Ground) where
-  abbrev F : FieldMeaning
-  F = ground.field
-
-  abbrev L : FieldLaws F
-  L = ground.laws
-
-  abbrev N : ℕ
-  N = ground.variables
-
-  abbrev B : Base
-  B = base L N
-
-  abbrev Typed : Type 0
-  Typed = Typing.Typed ground
-
-  abbrev raw : Typed → Poly
-  raw = Typing.raw ground
+  open ground use {field as F, variables as N}
+  open words ground use {B, Typed, raw}
 
   abbrev total : List Typed → List Typed → Algebra.V B
   total [] gs = Algebra.𝟎 B

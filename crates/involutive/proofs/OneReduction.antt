@@ -1,10 +1,8 @@
 -- Reducing comes to one thing: the greatest reducible term, the row that divides it and the written difference are determined.
 use Rattle.std.proofs.Common.{◌≡◌, ℕ, ◌⊎◌, List, length, sym, refl, ap, ◌∙◌, subst, subst₂, inl, inr, arith}
 use Rattle.polynomial.specs.declared.term.Term.{Term}
-use Rattle.field.specs.Field.{FieldMeaning}
 use Rattle.monomial.specs.Monomial.{In, Wide}
-use Rattle.monomial.specs.Order.{Compare}
-use Rattle.monomial.specs.Division.{Split, Distinct, Involutive}
+use Rattle.monomial.specs.Division.{Distinct, Involutive}
 use Rattle.involutive.specs.Value
 use Rattle.polynomial.specs.Polynomial.{Poly, exponents, Written}
 use Rattle.involutive.specs.Value.{minus}
@@ -13,26 +11,14 @@ use Rattle.polynomial.specs.Check.{Fits}
 use Rattle.involutive.specs.Sheet.{Setting, State, Lawful}
 use Rattle.involutive.specs.Answers.{ReducesTo}
 use Rattle.involutive.proofs.Monomials.{Mono}
-use Rattle.involutive.proofs.Typing.{Ground, ground_of, Beneath}
+use Rattle.involutive.proofs.Typing.{ground_of, words, Beneath}
 use Rattle.involutive.proofs.Soundness
 use Rattle.involutive.specs.Sound.{Sound}
 use Rattle.involutive.proofs.WrittenLists
 
 module _ (S : Setting) (W : Lawful S) where
-  abbrev ground : Ground
-  ground = ground_of S W
-
-  abbrev F : FieldMeaning
-  F = S.field
-
-  abbrev N : ℕ
-  N = S.variables
-
-  abbrev O : Compare
-  O = S.order
-
-  abbrev D : Split
-  D = S.division
+  open S use {field as F, variables as N, order as O, division as D}
+  open words (ground_of S W) use {ground}
 
   module _ (T : Table) (U : Distinct (leaders T)) where
     -- the row that divides is one: the law that no monomial has two involutive divisors

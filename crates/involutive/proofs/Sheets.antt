@@ -1,13 +1,11 @@
 -- What the theory of tables says of sheets, over lists of terms: what reducing leaves, and on a closed sheet what is irreducible,
 -- what leads, and what the copies generate.
-use Rattle.std.proofs.Common.{◌≡◌, ℕ, suc, ◌-◌, Bool, List, [], ◌∷◌, ◌++◌, map, length, get_or, sym, ap, ◌∙◌, subst, subst₂, arith}
+use Rattle.std.proofs.Common.{◌≡◌, ℕ, suc, ◌-◌, Bool, List, [], ◌∷◌, ◌++◌, map, length, sym, ap, ◌∙◌, subst, subst₂, arith}
 use mathlib.Core.List.{Memᴰ}
 use lib.ListN.{length-map}
 use Rattle.polynomial.specs.declared.term.Term.{Term}
-use Rattle.field.specs.Field.{FieldMeaning, FieldLaws}
 use Rattle.monomial.specs.Monomial.{Divides}
-use Rattle.monomial.specs.Order.{Compare}
-use Rattle.monomial.specs.Division.{Split, Within, Involutive}
+use Rattle.monomial.specs.Division.{Within, Involutive}
 use Rattle.involutive.specs.Value
 use Rattle.polynomial.specs.Polynomial.{Poly, Over, exponents, Written, leading}
 use Rattle.involutive.specs.Ideal.{Member, SameIdeal}
@@ -21,7 +19,7 @@ use Rattle.involutive.proofs.Monomials
 use Rattle.involutive.proofs.Monomials.{Mono}
 use Rattle.involutive.proofs.Typing
 use Rattle.involutive.proofs.Membership
-use Rattle.involutive.proofs.Typing.{Ground, ground_of, base}
+use Rattle.involutive.proofs.Typing.{ground_of, words, base}
 use Rattle.involutive.proofs.Ideals
 use Rattle.involutive.proofs.Copying.{CopyOf, Beside, beside, copy_from, copy_to}
 use Rattle.involutive.specs.Sound.{Sound}
@@ -33,36 +31,12 @@ use Rattle.involutive.proofs.WrittenLists
 use Rattle.involutive.proofs.Lists
 
 module _ (S : Setting) (W : Lawful S) where
-  abbrev ground : Ground
-  ground = ground_of S W
-
-  abbrev F : FieldMeaning
-  F = S.field
-
-  abbrev L : FieldLaws F
-  L = W.field
-
-  abbrev N : ℕ
-  N = S.variables
-
-  abbrev O : Compare
-  O = S.order
-
-  abbrev Typed : Type 0
-  Typed = Typing.Typed ground
-
-  abbrev raw : Typed → Poly
-  raw = Typing.raw ground
-
-  abbrev B : Base
-  B = base L N
+  open S use {field as F, variables as N, order as O, division as D}
+  open words (ground_of S W) use {ground, B, Typed, raw, lead, Sorted, nth}
 
   -- a sheet with these rows
   abbrev st : Table → (ℕ → ℕ → Bool) → State
   st R m = record { rows = R; marks = m }
-
-  abbrev D : Split
-  D = S.division
 
   -- what a closed sheet's marks say
   closing : (T : List Typed) (m : ℕ → ℕ → Bool) (G : Good S W T) → Sound S (st (map raw T) m) → Closed S (st (map raw T) m) → Closes S W T G
@@ -85,7 +59,7 @@ module _ (S : Setting) (W : Lawful S) where
   pub rows_over : {s : State} → Sound S s → Ideals.Overs F N s.rows
   rows_over I f h = (I.each f h).acceptable.written.over
 
-  sorted : (p : Typed) {f : Poly} → raw p ≡ f → Written F O N f → Tables.Sorted S W p
+  sorted : (p : Typed) {f : Poly} → raw p ≡ f → Written F O N f → Sorted p
   sorted p e w = WrittenLists.written_sorted ground p (subst (Written F O N) (sym e) w)
 
   -- what reducing takes off lies in the ideal of the rows
@@ -134,7 +108,7 @@ module _ (S : Setting) (W : Lawful S) where
 
     tidied_written : Written F O N f
     tidied_written =
-        let s : Tables.Sorted S W tidied.poly = subst (Tables.Sorted S W) (sym tidied.monic.is) tidied.monic.sorted in
+        let s : Sorted tidied.poly = subst Sorted (sym tidied.monic.is) tidied.monic.sorted in
         subst (Written F O N) tidied.is (WrittenLists.sorted_written ground tidied.poly s)
 
   -- a copy is written, and a member
@@ -151,14 +125,14 @@ module _ (S : Setting) (W : Lawful S) where
         member = subst (Member F N (map raw T)) t.is (Membership.span_member ground T t.poly (tidied_span T G s.marks k u d));
       }) w c
 
-  lowest_minimal : (T : List Typed) (m : ℕ → ℕ → Bool) (k : ℕ) (w : Within k (length T)) → ((j : (k : ℕ) × Within k (length T)) (a : Mono N) → Typing.lead ground (get_or T (k - 1) []) ≡ Monomials.mul (Typing.lead ground (get_or T (j.0 - 1) [])) a → j.0 ≡ k) → Minimal S (st (map raw T) m) k
+  lowest_minimal : (T : List Typed) (m : ℕ → ℕ → Bool) (k : ℕ) (w : Within k (length T)) → ((j : (k : ℕ) × Within k (length T)) (a : Mono N) → lead (nth T k) ≡ Monomials.mul (lead (nth T j.0)) a → j.0 ≡ k) → Minimal S (st (map raw T) m) k
   lowest_minimal T m k w h = record {
     within = rw (length-map T raw) w;
-    undivided = λ j v d. h (j, rw (length-map T raw) at v) (Monomials.over (Typing.lead ground (get_or T (k - 1) [])) (Typing.lead ground (get_or T (j - 1) []))) (sym (Monomials.mul_over (Typing.lead ground (get_or T (j - 1) [])) (Typing.lead ground (get_or T (k - 1) [])) (subst₂ Divides (led j) (led k) d)));
+    undivided = λ j v d. h (j, rw (length-map T raw) at v) (Monomials.over (lead (nth T k)) (lead (nth T j))) (sym (Monomials.mul_over (lead (nth T j)) (lead (nth T k)) (subst₂ Divides (led j) (led k) d)));
   }
     where
-      led : (k : ℕ) → leading (row (map raw T) k) ≡ (Typing.lead ground (get_or T (k - 1) [])).0
-      led k = ap leading (Typing.raw_row ground T (k - 1)) ∙ Typing.raw_lead ground (get_or T (k - 1) [])
+      led : (k : ℕ) → leading (row (map raw T) k) ≡ (lead (nth T k)).0
+      led k = ap leading (Typing.raw_row ground T (k - 1)) ∙ Typing.raw_lead ground (nth T k)
 
   -- the copies generate the ideal of the rows
   pub copies_ideal : (s : State) → Sound S s → Closed S s → (ks : List ℕ) (fs : List Poly) → Selection S s ks → Copies S s ks (copies fs) → SameIdeal F N s.rows fs

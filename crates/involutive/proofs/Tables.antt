@@ -6,9 +6,7 @@ use mathlib.Core.List.{Memᴰ}
 use mathlib.Core.WellFounded.InvImage
 use native.Mathlib.Bridge.{le_prop}
 use lib.ListN.{length-map}
-use Rattle.field.specs.Field.{FieldMeaning, FieldLaws}
-use Rattle.monomial.specs.Order.{Compare, OrderLaws}
-use Rattle.monomial.specs.Division.{Split, DivisionLaws, Within, Distinct, Involutive, member}
+use Rattle.monomial.specs.Division.{Within, Distinct, Involutive, member}
 use Rattle.monomial.specs.Monomial.{width, exponent, variable, quotient, Divides}
 use Rattle.involutive.specs.Value
 use Rattle.polynomial.specs.Polynomial
@@ -22,49 +20,14 @@ use Rattle.involutive.proofs.Sums
 use Rattle.involutive.proofs.Monomials
 use Rattle.involutive.proofs.Monomials.{Mono}
 use Rattle.involutive.proofs.Typing
-use Rattle.involutive.proofs.Typing.{Ground, ground_of, Code, base, Beneath}
+use Rattle.involutive.proofs.Typing.{ground_of, words, Code, base, Beneath}
 use Rattle.involutive.proofs.WrittenLists
 use Rattle.involutive.proofs.Lists
 
 module _ (S : Setting) (W : Lawful S) where
-  abbrev ground : Ground
-  ground = ground_of S W
-
-  abbrev F : FieldMeaning
-  F = S.field
-
-  abbrev L : FieldLaws F
-  L = W.field
-
-  abbrev N : ℕ
-  N = S.variables
-
-  abbrev O : Compare
-  O = S.order
-
-  abbrev Q : OrderLaws O
-  Q = W.order
-
-  abbrev D : Split
-  D = S.division
-
-  abbrev E : DivisionLaws D
-  E = W.division
-
-  abbrev pub B : Base
-  B = base L N
-
-  abbrev pub Typed : Type 0
-  Typed = Typing.Typed ground
-
-  abbrev pub raw : Typed → Poly
-  raw = Typing.raw ground
-
-  abbrev pub lead : Typed → Mono N
-  lead = Typing.lead ground
-
-  abbrev pub Sorted : Typed → Type 0
-  Sorted = Algebra.Sorted B (Beneath N O)
+  open S use {field as F, variables as N, order as O, division as D}
+  open W use {order as Q, division as E}
+  open words (ground_of S W) use {ground, B, Typed, raw, lead, Sorted, nth}
 
   pub record Monic (p : Typed) : Type 0 where
     pub head : Code F × Mono N
@@ -81,9 +44,6 @@ module _ (S : Setting) (W : Lawful S) where
 
   pub monic_top : {p : Typed} (u : Mono N) → Monic p → Beneath N O (lead p) u → Algebra.at B p u ≡ B.𝟘
   monic_top {p} u m = rw m.is (λ h. Algebra.at_below B (Beneath N O) (WrittenLists.line ground) (Algebra.more_below h (Algebra.below_up B (Beneath N O) (WrittenLists.line ground) h (sorted_parts m.sorted).0)))
-
-  abbrev pub nth : List Typed → ℕ → Typed
-  nth T k = get_or T (k - 1) []
 
   pub record Good (T : List Typed) : Type 0 where
     pub monic : (p : Typed) → Memᴰ p T → Monic p
@@ -223,8 +183,8 @@ module _ (S : Setting) (W : Lawful S) where
     reduced (done i) H p e s b g d =
         let f : raw p ≡ g = cc in
         record { poly = p; is = f; sorted = s; sum = Sums.nil (Algebra.⊕-⊖ B (Algebra.at B p)); irreducible = subst (Irreducible F O D N (map raw T)) (sym e ∙ f) i }
-    reduced (wide r f) H p e s b g d = let z : ◌≡◌ {A = ℕ} 0 1 = cc in absurd (omega arith)
-    reduced (long r f x l) H p e s b g d = let z : ◌≡◌ {A = ℕ} 0 1 = cc in absurd (omega arith)
+    reduced (wide r f) H p e s b g d = cc
+    reduced (long r f x l) H p e s b g d = cc
     reduced (acts {h = h} {g = g'} {t = t} {k = k} r f x l more) H p e s b g d =
         let u = Typing.raw_term ground p {t = t} (rw e r.stands) in
         let q = Typing.typed ground g' x.written.over in
@@ -245,8 +205,8 @@ module _ (S : Setting) (W : Lawful S) where
     -- what is left of terms below h is below h
     reduces_nil : {room : ℕ} {h : Poly} {o : Outcome} → Reduces F O D N (map raw T) room h o → h ≡ [] → (g : Poly) → o ≡ left g → g ≡ []
     reduces_nil (done i) e g d = cc
-    reduces_nil (wide r f) e g d = let z : ◌≡◌ {A = ℕ} 0 1 = cc in absurd (omega arith)
-    reduces_nil (long r f x l) e g d = let z : ◌≡◌ {A = ℕ} 0 1 = cc in absurd (omega arith)
+    reduces_nil (wide r f) e g d = cc
+    reduces_nil (long r f x l) e g d = cc
     reduces_nil (acts {t = t} r f x l more) e g d = absurd (Memᴰ.not-nil (subst (Memᴰ t) e r.stands))
 
     below_all : (h : Mono N) (q : Typed) → ((t : Code F × Mono N) → Memᴰ t q → Beneath N O t.1 h) → Algebra.Below B (Beneath N O) h q

@@ -79,20 +79,7 @@ abbrev pub ground_of : (S : Setting) → Lawful S → Ground
 ground_of S W = record { field = S.field; laws = W.field; order = S.order; order_laws = W.order; variables = S.variables }
 
 module _ (ground : Ground) where
-  abbrev F : FieldMeaning
-  F = ground.field
-
-  abbrev L : FieldLaws F
-  L = ground.laws
-
-  abbrev N : ℕ
-  N = ground.variables
-
-  abbrev O : Compare
-  O = ground.order
-
-  abbrev Q : OrderLaws O
-  Q = ground.order_laws
+  open ground use {field as F, laws as L, variables as N, order as O, order_laws as Q}
 
   abbrev pub B : Base
   B = base L N
@@ -242,3 +229,24 @@ module _ (ground : Ground) where
   unfolding Algebra.scaled
   nonzero_scaled c a [] h n t m = elim m [ ]
   nonzero_scaled c a (s ∷ p) h n t m = ⊎_elim (λ e. rw e (product_pos c s.0 h (n _ (Memᴰ.head refl)))) (λ k. nonzero_scaled c a p h (λ x k. n x (Memᴰ.tail k)) t k) (Memᴰ.cases_cons m)
+
+-- what a section over a ground calls the things above
+pub record Words : Type 1 where
+  pub ground : Ground
+  pub B : Base
+  pub Typed : Type 0
+  pub raw : Typed → Poly
+  pub lead : Typed → Mono ground.variables
+  pub Sorted : Typed → Type 0
+  pub nth : List Typed → ℕ → Typed
+
+abbrev pub words : Ground → Words
+words ground = record {
+  ground = ground;
+  B = B ground;
+  Typed = Typed ground;
+  raw = raw ground;
+  lead = lead ground;
+  Sorted = Algebra.Sorted (B ground) (Beneath ground.variables ground.order);
+  nth = λ T k. get_or T (k - 1) [];
+}

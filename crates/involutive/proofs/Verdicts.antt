@@ -3,9 +3,8 @@ use Rattle.std.proofs.Common.{◌≡◌, ℕ, suc, ◌-◌, ◌≤◌, ◌↔◌
 use mathlib.Core.List.{Memᴰ}
 use lib.ListN.{length-map}
 use Rattle.polynomial.specs.declared.term.Term.{Term}
-use Rattle.field.specs.Field.{FieldMeaning, FieldLaws}
 use Rattle.monomial.specs.Monomial.{In, Wide, one, Divides}
-use Rattle.monomial.specs.Order.{Compare, Under}
+use Rattle.monomial.specs.Order.{Under}
 use Rattle.monomial.specs.Division.{Within}
 use Rattle.polynomial.specs.Polynomial.{Poly, term, exponents, Written, Falling, single, more, leading}
 use Rattle.involutive.specs.Value.{unit}
@@ -16,7 +15,7 @@ use Rattle.involutive.specs.Answers.{Judges, verdict_answer, impossible, possibl
 use Rattle.monomial.specs.Places.{agree_all, beyond, low}
 use Rattle.involutive.specs.Complete.{UnitRow}
 use Rattle.involutive.proofs.Monomials
-use Rattle.involutive.proofs.Typing.{Ground, ground_of}
+use Rattle.involutive.proofs.Typing.{ground_of, words}
 use Rattle.involutive.proofs.Ideals
 use Rattle.involutive.proofs.Soundness
 use Rattle.involutive.specs.Sound.{Row, Sound}
@@ -25,20 +24,9 @@ use Rattle.involutive.proofs.WrittenLists
 use Rattle.involutive.proofs.Lists
 
 module _ (S : Setting) (W : Lawful S) where
-  abbrev ground : Ground
-  ground = ground_of S W
-
-  abbrev F : FieldMeaning
-  F = S.field
-
-  abbrev O : Compare
-  O = S.order
-
-  abbrev N : ℕ
-  N = S.variables
-
-  abbrev L : FieldLaws F
-  L = W.field
+  open S use {field as F, variables as N, order as O}
+  open W use {field as L}
+  open words (ground_of S W) use {ground}
 
   pub unit_written : Written F O N unit
   unit_written = record {
