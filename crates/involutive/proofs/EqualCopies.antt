@@ -2,6 +2,7 @@
 use Rattle.std.proofs.Common.{◌≡◌, ℕ, suc, ◌-◌, ◌≤◌, List, [], ◌∷◌, ◌++◌, length, get_or, take, drop, sym, refl, ap, ◌∙◌, subst, arith}
 use mathlib.Core.List.{Memᴰ}
 use lib.ListN.{length-map}
+use Rattle.std.proofs.lemmas.List.{get_or-map}
 use lib.Seq.{take-append_seam}
 use Rattle.polynomial.specs.declared.term.Term.{Term}
 use Rattle.monomial.specs.Monomial.{In, Wide, times, quotient, Divides}
@@ -123,7 +124,7 @@ module _ (S : Setting) (W : Lawful S) where
     shown t f w h =
         let r = Sheets.lead_divisor (set D) (lawful E) A.s A.sound A.closed t f w h in
         let v : InRows r.0 = rw (length-map A.s.rows leading) at r.1.within in
-        record { k = r.0; within = v; divides = subst (λ x. Divides x (exponents t)) (Soundness.lead_at A.s.rows (r.0 - 1) (omega arith)) r.1.divides }
+        record { k = r.0; within = v; divides = subst (λ x. Divides x (exponents t)) (get_or-map leading A.s.rows (r.0 - 1) [] [] (omega arith)) r.1.divides }
 
   abbrev Inside : {D D' : Split} {E : DivisionLaws D} {E' : DivisionLaws D'} → Side D E → Side D' E' → Type 0
   Inside A C = (f : Poly) → Over F N f → Member F N A.s.rows f → Member F N C.s.rows f
@@ -167,7 +168,7 @@ module _ (S : Setting) (W : Lawful S) where
         let c : In N (exponents t) = (w.over t m).1 in
         let a : List ℕ = quotient (exponents t) (leader A k) in
         let an : In N a = Monomials.in_quotient (leader A k) c (wide_leader A k) in
-        let l : Divides (leader A k) (exponents t) = subst (λ x. Divides x (exponents t)) (Soundness.lead_at A.s.rows (k - 1) (omega arith)) v.divides in
+        let l : Divides (leader A k) (exponents t) = subst (λ x. Divides x (exponents t)) (get_or-map leading A.s.rows (k - 1) [] [] (omega arith)) v.divides in
         let p : Poly = scaled F 1 a (row A.s.rows k) in
         let pw : Written F O N p = WrittenLists.written_scaled ground 1 a (omega arith) L.differ an (row A.s.rows k) f.good in
         let pm : Member F N A.s.rows p = Ideals.member_scaled ground 1 a L.differ an A.s.rows (rows_over A) (row A.s.rows k) f.good.over (row_member A k n) in

@@ -15,7 +15,6 @@ use Rattle.involutive.proofs.Monomials.{Mono}
 use Rattle.involutive.proofs.Typing
 use Rattle.involutive.proofs.Membership
 use Rattle.involutive.proofs.Typing.{Ground, words, Code, base}
-use Rattle.involutive.proofs.Lists
 
 abbrev pub Overs : FieldMeaning → ℕ → List Poly → Type 0
 Overs F N gs = (g : Poly) → Memᴰ g gs → Over F N g
@@ -143,7 +142,7 @@ module _ (ground : Ground) where
       member gs (p ++ Algebra.negated B q) (Typing.raw_minus ground p q) (subst (Span B gs) (sym e) (Algebra.span-⊕ B (Membership.member_span ground gs (u ∷ p) h) (Algebra.span-⊖ B (Membership.member_span ground gs (u ∷ q) k)))))))
 
   pub member_generator : (gs : List Poly) → Overs F N gs → (g : Poly) → Memᴰ g gs → Member F N gs g
-  member_generator = eachs _ (λ gs g h. let r = Lists.map_member raw gs h in member gs r.0 r.2 (Algebra.span_gen B r.1))
+  member_generator = eachs _ (λ gs g h. let r = Memᴰ.of_map raw gs h in member gs r.0 r.2 (Algebra.span_gen B r.1))
 
   pub turned : {gs hs : List Poly} → SameIdeal F N gs hs → SameIdeal F N hs gs
   turned h f o = ((h f o).1, (h f o).0)
@@ -153,11 +152,11 @@ module _ (ground : Ground) where
 
   -- the ideals are the same where each generator is a member of the other
   pub same_ideal : (gs : List Poly) → Overs F N gs → (hs : List Poly) → Overs F N hs → ((g : Poly) → Memᴰ g gs → Member F N hs g) → ((h : Poly) → Memᴰ h hs → Member F N gs h) → SameIdeal F N gs hs
-  same_ideal = eachs _ (λ gs. eachs _ (λ hs p q. Membership.same_ideal ground gs hs (λ g m. Membership.member_span ground hs g (p (raw g) (Lists.member_map raw gs m))) (λ h m. Membership.member_span ground gs h (q (raw h) (Lists.member_map raw hs m)))))
+  same_ideal = eachs _ (λ gs. eachs _ (λ hs p q. Membership.same_ideal ground gs hs (λ g m. Membership.member_span ground hs g (p (raw g) (Memᴰ.map raw m))) (λ h m. Membership.member_span ground gs h (q (raw h) (Memᴰ.map raw m)))))
 
   -- members of the ideal of gs, where each of gs lies in that of hs
   pub member_through : (gs : List Poly) → Overs F N gs → (hs : List Poly) → Overs F N hs → ((g : Poly) → Memᴰ g gs → Member F N hs g) → (f : Poly) → Over F N f → Member F N gs f → Member F N hs f
-  member_through = eachs _ (λ gs. eachs _ (λ hs p. each _ (λ f m. Membership.span_member ground hs f (Algebra.span_trans B (λ g h. Membership.member_span ground hs g (p (raw g) (Lists.member_map raw gs h))) (Membership.member_span ground gs f m)))))
+  member_through = eachs _ (λ gs. eachs _ (λ hs p. each _ (λ f m. Membership.span_member ground hs f (Algebra.span_trans B (λ g h. Membership.member_span ground hs g (p (raw g) (Memᴰ.map raw h))) (Membership.member_span ground gs f m)))))
 
   pub over_append : (gs hs : List Poly) → Overs F N gs → Overs F N hs → Overs F N (gs ++ hs)
   over_append gs hs o o' g m = ⊎_elim (λ k. o g k) (λ k. o' g k) (Memᴰ.append_cases gs m)

@@ -32,10 +32,10 @@ module _ (S : Setting) (W : Lawful S) where
     pub same : SameIdeal F N s.rows gs
 
   alone : (f : Poly) → Over F N f → Overs F N (f ∷ [])
-  alone f o g h = ⊎_elim (λ e. subst (Over F N) (sym e) o) (λ k. elim k [ ]) (Memᴰ.cases_cons h)
+  alone f o g h = subst (Over F N) (sym (Memᴰ.eq_of_singleton h)) o
 
   only : {gs : List Poly} (f : Poly) → Member F N gs f → (g : Poly) → Memᴰ g (f ∷ []) → Member F N gs g
-  only {gs} f m g h = ⊎_elim (λ e. subst (Member F N gs) (sym e) m) (λ k. elim k [ ]) (Memᴰ.cases_cons h)
+  only {gs} f m g h = subst (Member F N gs) (sym (Memᴰ.eq_of_singleton h)) m
 
   last : (gs : List Poly) (f : Poly) → Memᴰ f (gs ++ (f ∷ []))
   last gs f = Memᴰ.append_right gs (Memᴰ.head refl)

@@ -1,12 +1,13 @@
 -- The invariant of a log: rows are written and monic, their leading monomials differ, and every marked pair reduces to nothing.
-use Rattle.std.proofs.Common.{◌≡◌, ℕ, zero, suc, ◌-◌, ◌<◌, ◌≤◌, false, ◌&&◌, eqb, ◌⊎◌, List, [], ◌∷◌, ◌++◌, map, length, get_or, drop, None, sym, refl, ap, ◌∙◌, subst, subst₂, inl, inr, ⊎_elim, arith, length-append}
+use Rattle.std.proofs.Common.{◌≡◌, ℕ, zero, suc, ◌-◌, ◌<◌, ◌≤◌, false, ◌&&◌, eqb, ◌⊎◌, List, [], ◌∷◌, ◌++◌, length, get_or, drop, None, sym, refl, ap, ◌∙◌, subst, subst₂, inl, inr, ⊎_elim, arith, length-append}
 use mathlib.Core.List.Memᴰ
 use mathlib.Core.List.{Memᴰ}
 use lib.ListN.{length-map}
 use Rattle.std.proofs.lemmas.Bool.{and_parts, or_cases, eqb-true, cases_eq, both_ways}
-use Rattle.std.proofs.lemmas.List.{get_or_append_left, get_or_push}
+use Rattle.std.proofs.lemmas.List.{get_or-map, get_or_append_left, get_or_push}
 use Rattle.polynomial.specs.declared.term.Term.{Term}
 use Rattle.monomial.specs.Monomial.{Wide, Bounded, variable, one, quotient}
+use Rattle.monomial.specs.Places.{at_quotient}
 use Rattle.monomial.specs.Order.{Under}
 use Rattle.monomial.specs.Division.{Within, Distinct, member}
 use Rattle.polynomial.specs.Polynomial.{Poly, Over, term, exponents, Written, Falling, none, single, more, leading}
@@ -25,15 +26,8 @@ use Rattle.involutive.proofs.Values
 use Rattle.involutive.specs.Sound.{Row, Sound, SoundnessKept}
 use Rattle.involutive.proofs.Lists
 
-pub lead_at : (T : Table) (i : ℕ) → i < length T → get_or (map leading T) i [] ≡ leading (get_or T i [])
-lead_at [] i h = absurd (omega arith)
-lead_at (p ∷ T) zero h = refl
-lead_at (p ∷ T) (suc i) h = lead_at T i (omega arith)
-
 quotient_self : (m : List ℕ) (i : ℕ) → get_or (quotient m m) i 0 ≡ 0
-quotient_self [] i = refl
-quotient_self (e ∷ m) zero = omega arith
-quotient_self (e ∷ m) (suc i) = quotient_self m i
+quotient_self m i = omega (arith, at_quotient m m refl i)
 
 place : (T : Table) (p : Poly) (j : ℕ) → Within j (length (T ++ (p ∷ []))) → (Within j (length T) × (row (T ++ (p ∷ [])) j ≡ row T j)) ⊎ ((j ≡ suc (length T)) × (row (T ++ (p ∷ [])) j ≡ p))
 place T p j w = ⊎_elim (λ e. inr (e, get_or_push T p [] (j - 1) (omega arith))) (λ e. let v : Within j (length T) = (w.0, omega (arith, n)) in inl (v, get_or_append_left T (p ∷ []) [] (j - 1) (omega arith))) (cases_eq j (suc (length T)))
@@ -88,7 +82,7 @@ module _ (S : Setting) (W : Lawful S) where
   })
     where
       a : member (leaders T) k ≡ exponents t
-      a = lead_at T (k - 1) (omega arith) ∙ e
+      a = get_or-map leading T (k - 1) [] [] (omega arith) ∙ e
 
   -- divided by its leading coefficient it is a row, and its leading monomial stays
   pub monic_leads : (t : Term) (g : Poly) → Acceptable F O N (t ∷ g) → leading (scaled F (F.inv t.coefficient) one (t ∷ g)) ≡ exponents t
@@ -233,7 +227,7 @@ module _ (S : Setting) (W : Lawful S) where
       inside w = rw (length-map s.rows leading) at w
 
       led : (k : ℕ) → Within k (length s.rows) → member (leaders s.rows) k ≡ leading (row s.rows k)
-      led k w = lead_at s.rows (k - 1) (omega arith)
+      led k w = get_or-map leading s.rows (k - 1) [] [] (omega arith)
 
 pub soundness_kept : SoundnessKept
 soundness_kept S W calls s gs a = sound S W a

@@ -1,11 +1,12 @@
 -- A table of monic rows with distinct leading monomials, and what reducing by it leaves.
-use Rattle.std.proofs.Common.{◌≡◌, ℕ, zero, suc, ◌-◌, ◌<◌, Bool, true, ◌⊎◌, List, [], ◌∷◌, ◌++◌, map, length, get_or, take, drop, Some, sym, refl, ap, ◌∙◌, subst, inl, inr, ⊎_elim, arith}
+use Rattle.std.proofs.Common.{◌≡◌, ℕ, ◌-◌, ◌<◌, Bool, true, ◌⊎◌, List, [], ◌∷◌, ◌++◌, map, length, take, drop, Some, sym, refl, ap, ◌∙◌, subst, inl, inr, ⊎_elim, arith}
 use mathlib.Core.HLevel.{Σ_prop_path, ×_prop}
 use mathlib.Core.List.Memᴰ
 use mathlib.Core.List.{Memᴰ}
 use mathlib.Core.WellFounded.InvImage
 use native.Mathlib.Bridge.{le_prop}
 use lib.ListN.{length-map}
+use Rattle.std.proofs.lemmas.List.{get_or-map}
 use Rattle.monomial.specs.Division.{Within, Distinct, Involutive, member}
 use Rattle.monomial.specs.Monomial.{width, exponent, variable, quotient, Divides}
 use Rattle.involutive.specs.Value
@@ -56,17 +57,9 @@ module _ (S : Setting) (W : Lawful S) where
   -- the rows of a sound sheet are such a table
   pub typed_good : (T : List Typed) (m : ℕ → ℕ → Bool) → Sound S (record { rows = map raw T; marks = m }) → Good T
   typed_good T m I = record {
-    monic = λ p h. typed_monic p (I.each (raw p) (Lists.member_map raw T h));
-    once = λ j k w v e. I.once j k (rw (length-map T raw) w) (rw (length-map T raw) v) (led j ∙ ap (λ x. x.0) e ∙ sym (led k));
+    monic = λ p h. typed_monic p (I.each (raw p) (Memᴰ.map raw h));
+    once = λ j k w v e. I.once j k (rw (length-map T raw) w) (rw (length-map T raw) v) (Typing.row_lead ground T (j - 1) ∙ ap (λ x. x.0) e ∙ sym (Typing.row_lead ground T (k - 1)));
   }
-    where
-      led : (k : ℕ) → Polynomial.leading (row (map raw T) k) ≡ (lead (get_or T (k - 1) [])).0
-      led k = ap Polynomial.leading (Typing.raw_row ground T (k - 1)) ∙ Typing.raw_lead ground (get_or T (k - 1) [])
-
-  lead_at : (T : List Typed) (i : ℕ) → i < length T → get_or (map Polynomial.leading (map raw T)) i [] ≡ (lead (get_or T i [])).0
-  lead_at [] i h = absurd (omega arith)
-  lead_at (p ∷ T) zero h = Typing.raw_lead ground p
-  lead_at (p ∷ T) (suc i) h = lead_at T i (omega arith)
 
   module _ (T : List Typed) (G : Good T) where
     abbrev pub U : List (List ℕ)
@@ -76,7 +69,7 @@ module _ (S : Setting) (W : Lawful S) where
     size = simp length-map
 
     pub member_lead : (k : ℕ) → Within k (length T) → member U k ≡ (lead (nth T k)).0
-    member_lead k w = lead_at T (k - 1) (omega arith)
+    member_lead k w = get_or-map Polynomial.leading (map raw T) (k - 1) [] [] (omega (arith, length-map T raw)) ∙ Typing.row_lead ground T (k - 1)
 
     pub in_u : {k : ℕ} → Within k (length T) → Within k (length U)
     in_u w = rw size w

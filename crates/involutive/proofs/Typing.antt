@@ -1,7 +1,8 @@
 -- From the lists of terms in specs/ to polynomials over the codes below q, and back.
-use Rattle.std.proofs.Common.{◌≡◌, ℕ, zero, suc, ◌-◌, ◌<◌, List, [], ◌∷◌, ◌++◌, map, length, get_or, sym, refl, ap, ◌∙◌, ⊎_elim, arith}
+use Rattle.std.proofs.Common.{◌≡◌, ℕ, zero, suc, ◌-◌, ◌<◌, List, [], ◌∷◌, ◌++◌, map, get_or, sym, refl, ap, ◌∙◌, ⊎_elim, arith}
 use mathlib.Core.Path.{fun_ext}
 use mathlib.Core.HLevel.{Σ_prop_path}
+use lib.ListN.{get_or-map}
 use mathlib.Core.List.Memᴰ
 use mathlib.Core.List.{Memᴰ}
 use native.Mathlib.Bridge.{le_prop}
@@ -150,7 +151,7 @@ module _ (ground : Ground) where
   pub nothing : (p : Typed) → raw p ≡ [] → Algebra.at B p ≡ Algebra.𝟎 B
   unfolding Algebra.at
   nothing [] e = refl
-  nothing (t ∷ p) e = let z : suc (length (raw p)) ≡ 0 = ap length e in absurd (omega arith)
+  nothing (t ∷ p) e = cc
 
   -- the value of a difference
   abbrev pub minus : Typed → Typed → Algebra.V B
@@ -164,9 +165,7 @@ module _ (ground : Ground) where
       (p.0 ∷ r.0, cc (p.1, r.1))
 
   pub raw_row : (T : List Typed) (i : ℕ) → get_or (map raw T) i [] ≡ raw (get_or T i [])
-  raw_row [] i = refl
-  raw_row (p ∷ T) zero = refl
-  raw_row (p ∷ T) (suc i) = raw_row T i
+  raw_row T i = get_or-map raw T i []
 
   abbrev pub lead : Typed → Mono N
   lead [] = Monomials.unit
@@ -175,6 +174,9 @@ module _ (ground : Ground) where
   pub raw_lead : (p : Typed) → Polynomial.leading (raw p) ≡ (lead p).0
   raw_lead [] = refl
   raw_lead (t ∷ f) = refl
+
+  pub row_lead : (T : List Typed) (i : ℕ) → Polynomial.leading (get_or (map raw T) i []) ≡ (lead (get_or T i [])).0
+  row_lead T i = ap Polynomial.leading (raw_row T i) ∙ raw_lead (get_or T i [])
 
   pub raw_minus : (f g : Typed) → raw (f ++ Algebra.negated B g) ≡ Value.minus F (raw f) (raw g)
   raw_minus f g = raw-++ f (Algebra.negated B g) ∙ ap (λ x. raw f ++ x) (raw_negated g)
