@@ -1,5 +1,6 @@
 -- The table of a closed sheet: every multiple of a row is a sum of involutive multiples, so remainders are determined and the minimal rows generate.
 use Rattle.std.proofs.Common.{◌≡◌, ℕ, zero, suc, ◌-◌, ◌<◌, ◌≤◌, Bool, true, false, ◌⊎◌, List, [], ◌∷◌, map, length, get_or, Some, sym, ap, ◌∙◌, subst, inl, inr, ⊎_elim, arith}
+use mathlib.Core.List.Memᴰ
 use mathlib.Core.List.{Memᴰ}
 use mathlib.Core.WellFounded.InvImage
 use mathlib.Core.WellFounded.{Acc}
@@ -9,7 +10,6 @@ use Rattle.std.proofs.lemmas.Bool.{cases_eq}
 use Rattle.monomial.specs.Division.{Within, Involutive, Next}
 use Rattle.monomial.specs.Monomial.{exponent, variable, times}
 use Rattle.involutive.specs.Value
-use Rattle.polynomial.specs.Polynomial.{term}
 use Rattle.involutive.specs.Sheet.{Setting, Lawful}
 use Rattle.involutive.specs.Reduction.{Irreducible, row, leaders, left, Reduces}
 use Rattle.involutive.proofs.Algebra
@@ -17,7 +17,7 @@ use Rattle.involutive.proofs.Algebra.{Base, Span}
 use Rattle.involutive.proofs.Sums
 use Rattle.involutive.proofs.Monomials
 use Rattle.involutive.proofs.Monomials.{Mono}
-use Rattle.involutive.proofs.Typing.{ground_of, words, Code, Beneath}
+use Rattle.involutive.proofs.Typing.{bare, ground_of, words, Code, Beneath}
 use Rattle.involutive.proofs.Tables
 use Rattle.involutive.proofs.Tables.{Monic, Good}
 use Rattle.involutive.proofs.WrittenLists
@@ -100,12 +100,7 @@ module _ (S : Setting) (W : Lawful S) where
           subst (Sums.Sum B chart (λ m. Unit)) (sym (e ∙ ap (λ x. Algebra.◌⊕◌ B (Algebra.shift B c a (Algebra.at B x)) w) d)) (Sums.sum-⊕ B chart (Sums.sum_map B chart (λ m y. tt) (Sums.tame B chart NextRow row_wf split c k a)) (span_sum s))
 
       absent : (p : Typed) → Irreducible F O D N (map raw T) (raw p) → Sums.Irreducible B chart (Algebra.at B p)
-      absent p h k a m = Algebra.at_absent B p (Monomials.mul a (lead (nth T k.0))) (λ t i e. h (term t.0.0 t.1.0) (raw_mem p i) k.0 (subst (λ y. Involutive D U k.0 y.0) (sym e) (Tables.involutive S W T G k a m)))
-        where
-          raw_mem : (p : Typed) {t : Code F × Mono N} → Memᴰ t p → Memᴰ (term t.0.0 t.1.0) (raw p)
-          raw_mem [] i = elim i [ ]
-          raw_mem (s ∷ p) (Memᴰ.head e) = Memᴰ.head (ap (λ t. term t.0.0 t.1.0) e)
-          raw_mem (s ∷ p) (Memᴰ.tail i) = Memᴰ.tail (raw_mem p i)
+      absent p h k a m = Algebra.at_absent B p (Monomials.mul a (lead (nth T k.0))) (λ t i e. h (bare ground t) (Memᴰ.map (bare ground) i) k.0 (subst (λ y. Involutive D U k.0 y.0) (sym e) (Tables.involutive S W T G k a m)))
 
       -- irreducible polynomials that differ by a member of the ideal are the same
       pub one_remainder : (p q : Typed) → Sorted p → Sorted q → Irreducible F O D N (map raw T) (raw p) → Irreducible F O D N (map raw T) (raw q) → Span B T (Algebra.◌⊕◌ B (Algebra.at B p) (Algebra.⊖ B (Algebra.at B q))) → p ≡ q

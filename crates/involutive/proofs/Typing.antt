@@ -4,7 +4,7 @@ use mathlib.Core.Path.{fun_ext}
 use mathlib.Core.HLevel.{Σ_prop_path}
 use lib.ListN.{get_or-map}
 use mathlib.Core.List.Memᴰ
-use mathlib.Core.List.{Memᴰ}
+use mathlib.Core.List.{Memᴰ, map-append}
 use native.Mathlib.Bridge.{le_prop}
 use Rattle.std.proofs.lemmas.Bool.{cond-true, cond-false}
 use Rattle.polynomial.specs.declared.term.Term.{Term}
@@ -18,6 +18,7 @@ use Rattle.monomial.specs.Order.{Compare, OrderLaws, Under}
 use Rattle.monomial.specs.Division.{Split}
 use Rattle.involutive.specs.Reduction.{multiple, Difference}
 use Rattle.involutive.specs.Sheet.{Setting, Lawful}
+use Rattle.involutive.proofs.Lists
 use Rattle.involutive.proofs.Algebra
 use Rattle.involutive.proofs.Algebra.{Base}
 use Rattle.involutive.proofs.Values
@@ -88,24 +89,20 @@ module _ (ground : Ground) where
   abbrev pub Typed : Type 0
   Typed = List (Code F × Mono N)
 
+  abbrev pub bare : Code F × Mono N → Term
+  bare t = term t.0.0 t.1.0
+
   abbrev pub raw : Typed → Poly
-  raw [] = []
-  raw (t ∷ f) = term t.0.0 t.1.0 ∷ raw f
+  raw = map bare
 
   pub raw-++ : (f g : Typed) → raw (f ++ g) ≡ raw f ++ raw g
-  raw-++ [] g = refl
-  raw-++ (t ∷ f) g = ap {B = Poly} (λ r. term t.0.0 t.1.0 ∷ r) (raw-++ f g)
+  raw-++ = map-append bare
 
   pub typed : (f : Poly) → Over F N f → (p : Typed) × (raw p ≡ f)
-  typed [] o = ([], refl)
-  typed (t ∷ f) o =
-      let r = typed f (λ s h. o s (Memᴰ.tail h)) in
-      let h = o t (Memᴰ.head refl) in
-      (((t.coefficient, h.0), (exponents t, h.1)) ∷ r.0, ap {B = Poly} (λ r. t ∷ r) r.1)
+  typed f o = Lists.lifted bare f (λ t h. let w = o t h in (((t.coefficient, w.0), (exponents t, w.1)), refl))
 
   pub raw_over : (p : Typed) → Over F N (raw p)
-  raw_over [] t h = elim h [ ]
-  raw_over (s ∷ p) t h = ⊎_elim (λ e. (rw e s.0.1, rw e s.1.1)) (λ k. raw_over p t k) (Memᴰ.cases_cons h)
+  raw_over p t h = let u = Memᴰ.of_map bare p h in rw (← u.2) (u.0.0.1, u.0.1.1)
 
   pub raw_scaled : (c : Code F) (a : Mono N) (f : Typed) → raw (Algebra.scaled B c a f) ≡ Value.scaled F c.0 a.0 (raw f)
   unfolding Algebra.scaled
@@ -158,11 +155,7 @@ module _ (ground : Ground) where
   minus p q = Algebra.◌⊕◌ B (Algebra.at B p) (Algebra.⊖ B (Algebra.at B q))
 
   pub typeds : (fs : List Poly) → ((a : Poly) → Memᴰ a fs → Over F N a) → (xs : List Typed) × (map raw xs ≡ fs)
-  typeds [] o = ([], refl)
-  typeds (f ∷ fs) o =
-      let p = typed f (o f (Memᴰ.head refl)) in
-      let r = typeds fs (λ a h. o a (Memᴰ.tail h)) in
-      (p.0 ∷ r.0, cc (p.1, r.1))
+  typeds fs o = Lists.lifted raw fs (λ f h. typed f (o f h))
 
   pub raw_row : (T : List Typed) (i : ℕ) → get_or (map raw T) i [] ≡ raw (get_or T i [])
   raw_row T i = get_or-map raw T i []
@@ -197,8 +190,7 @@ module _ (ground : Ground) where
   at_minus f g = Algebra.at-++ B f (Algebra.negated B g) ∙ ap (Algebra.◌⊕◌ B (Algebra.at B f)) (Algebra.at_negated B g)
 
   pub raw_term : (p : Typed) {t : Term} → Memᴰ t (raw p) → (u : Code F × Mono N) × Memᴰ u p × (t ≡ term u.0.0 u.1.0)
-  raw_term [] h = elim h [ ]
-  raw_term (u ∷ p) h = ⊎_elim (λ e. (u, Memᴰ.head refl, e)) (λ k. let r = raw_term p k in (r.0, Memᴰ.tail r.1, r.2)) (Memᴰ.cases_cons h)
+  raw_term p h = let u = Memᴰ.of_map bare p h in (u.0, u.1, sym u.2)
 
   -- a row divided by its leading coefficient
   pub record Inverse (c : Code F) : Type 0 where
