@@ -26,7 +26,7 @@ use Rattle.involutive.proofs.Lists
 module _ (S : Setting) (W : Lawful S) where
   open S use {field as F, variables as N, order as O, division as D}
   open W use {division as E}
-  open words (ground_of S W) use {ground, B, Typed, raw, lead, Sorted, nth}
+  open words (ground_of S W) use {ground, B, Typed, raw, lead, minus, Sorted, nth}
 
   module _ (T : List Typed) (G : Good S W T) where
     abbrev U : List (List ℕ)
@@ -103,7 +103,7 @@ module _ (S : Setting) (W : Lawful S) where
       absent p h k a m = Algebra.at_absent B p (Monomials.mul a (lead (nth T k.0))) (λ t i e. h (bare ground t) (Memᴰ.map (bare ground) i) k.0 (subst (λ y. Involutive D U k.0 y.0) (sym e) (Tables.involutive S W T G k a m)))
 
       -- irreducible polynomials that differ by a member of the ideal are the same
-      pub one_remainder : (p q : Typed) → Sorted p → Sorted q → Irreducible F O D N (map raw T) (raw p) → Irreducible F O D N (map raw T) (raw q) → Span B T (Algebra.◌⊕◌ B (Algebra.at B p) (Algebra.⊖ B (Algebra.at B q))) → p ≡ q
+      pub one_remainder : (p q : Typed) → Sorted p → Sorted q → Irreducible F O D N (map raw T) (raw p) → Irreducible F O D N (map raw T) (raw q) → Span B T (minus p q) → p ≡ q
       one_remainder p q s t i j h = Algebra.sorted_eq B (Beneath N O) (WrittenLists.line ground) s t
           (Algebra.minus_zero B (Algebra.at B p) (Algebra.at B q) (Sums.irreducible_zero B chart (span_sum h) (λ k a m. Algebra.minus_off B (Algebra.at B p) (Algebra.at B q) _ (absent p i k a m) (absent q j k a m))))
 
@@ -133,7 +133,7 @@ module _ (S : Setting) (W : Lawful S) where
         pub inside : Span B P (Algebra.at B poly)
         pub monic : Monic S W poly
         pub leads : lead poly ≡ leader k
-        pub span : Span B T (Algebra.◌⊕◌ B (Algebra.at B (nth T k.0)) (Algebra.⊖ B (Algebra.at B poly)))
+        pub span : Span B T (minus (nth T k.0) poly)
 
       record Lower (k : R) : Type 0 where
         j : R

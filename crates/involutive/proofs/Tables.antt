@@ -28,7 +28,7 @@ use Rattle.involutive.proofs.Lists
 module _ (S : Setting) (W : Lawful S) where
   open S use {field as F, variables as N, order as O, division as D}
   open W use {order as Q, division as E}
-  open words (ground_of S W) use {ground, B, Typed, raw, lead, Sorted, nth}
+  open words (ground_of S W) use {ground, B, Typed, raw, lead, minus, Sorted, nth}
 
   pub record Monic (p : Typed) : Type 0 where
     pub head : Code F × Mono N
@@ -159,7 +159,7 @@ module _ (S : Setting) (W : Lawful S) where
       pub poly : Typed
       pub is : raw poly ≡ g
       pub sorted : Sorted poly
-      pub sum : Sums.Sum B chart (Sums.Upto B chart H) (Algebra.◌⊕◌ B (Algebra.at B p) (Algebra.⊖ B (Algebra.at B poly)))
+      pub sum : Sums.Sum B chart (Sums.Upto B chart H) (minus p poly)
       pub irreducible : Irreducible F O D N (map raw T) g
 
     Bounded : Mono N → Typed → Type 0
@@ -192,7 +192,7 @@ module _ (S : Setting) (W : Lawful S) where
           is = z.is;
           sorted = z.sorted;
           irreducible = z.irreducible;
-          sum = Sums.add u.0.0 v.k v.a v.mul n z.sum (Algebra.minus_chain B (Algebra.at B p) (Algebra.at B q.0) (Algebra.at B z.poly) ∙ ap (λ y. Algebra.◌⊕◌ B y (Algebra.◌⊕◌ B (Algebra.at B q.0) (Algebra.⊖ B (Algebra.at B z.poly)))) (Algebra.minus_minus B (Algebra.at B p) (Algebra.at B q.0) (Algebra.shift B u.0.0 v.a (Algebra.at B (nth T k))) w));
+          sum = Sums.add {v = minus p z.poly} {w = minus q.0 z.poly} u.0.0 v.k v.a v.mul n z.sum (Algebra.minus_through B (Algebra.at B p) (Algebra.at B q.0) (Algebra.shift B u.0.0 v.a (Algebra.at B (nth T k))) (Algebra.at B z.poly) w);
         }
 
     -- what is left of terms below h is below h
@@ -216,7 +216,7 @@ module _ (S : Setting) (W : Lawful S) where
       pub is : raw poly ≡ g
       pub sorted : Sorted poly
       pub irreducible : Irreducible F O D N (map raw T) g
-      pub span : Span B T (Typing.minus ground p poly)
+      pub span : Span B T (minus p poly)
       pub below : (h : Mono N) → Algebra.Below B (Beneath N O) h p → Algebra.Below B (Beneath N O) h poly
 
     first_below : {h : Mono N} {u : Code F × Mono N} {p : Typed} → Algebra.Below B (Beneath N O) h (u ∷ p) → Beneath N O u.1 h
@@ -248,7 +248,7 @@ module _ (S : Setting) (W : Lawful S) where
       pub is : raw poly ≡ f
       pub monic : Monic poly
       pub leads : lead poly ≡ lead (nth T k.0)
-      pub span : Span B T (Algebra.◌⊕◌ B (Algebra.at B (nth T k.0)) (Algebra.⊖ B (Algebra.at B poly)))
+      pub span : Span B T (minus (nth T k.0) poly)
 
     pub tidied : {room : ℕ} (k : R) {g : Poly} → Reduces F O D N (map raw T) room (drop 1 (row (map raw T) k.0)) (left g) → Tidied k (take 1 (row (map raw T) k.0) ++ g)
     unfolding Algebra.at
@@ -262,7 +262,7 @@ module _ (S : Setting) (W : Lawful S) where
           is = ap {B = Poly} (λ x. term m.head.0.0 m.head.1.0 ∷ x) z.is ∙ ap (λ x. take 1 x ++ g) (sym e);
           monic = record { head = m.head; tail = z.poly; is = refl; one = m.one; sorted = Algebra.more_sorted parts.2 (z.below m.head.1 parts.0) z.sorted };
           leads = ap lead (sym m.is);
-          span = subst (λ x. Span B T (Algebra.◌⊕◌ B (Algebra.at B x) (Algebra.⊖ B (Algebra.at B (m.head ∷ z.poly))))) (sym m.is) (subst (Span B T) (sym (Algebra.minus_front B (Algebra.single B m.head.0 m.head.1) (Algebra.at B m.tail) (Algebra.at B z.poly))) z.span);
+          span = subst (λ x. Span B T (minus x (m.head ∷ z.poly))) (sym m.is) (subst (Span B T) (sym (Algebra.minus_front B (Algebra.single B m.head.0 m.head.1) (Algebra.at B m.tail) (Algebra.at B z.poly))) z.span);
         }
 
     below_shift : (x m : Mono N) {f : Typed} → Algebra.Below B (Beneath N O) m f → Algebra.Below B (Beneath N O) (Monomials.mul x m) (Algebra.scaled B B.𝟙 x f)

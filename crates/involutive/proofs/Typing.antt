@@ -231,6 +231,7 @@ pub record Words : Type 1 where
   pub Typed : Type 0
   pub raw : Typed → Poly
   pub lead : Typed → Mono ground.variables
+  pub minus : Typed → Typed → Algebra.V B
   pub Sorted : Typed → Type 0
   pub nth : List Typed → ℕ → Typed
 
@@ -241,6 +242,7 @@ words ground = record {
   Typed = Typed ground;
   raw = raw ground;
   lead = lead ground;
+  minus = minus ground;
   Sorted = Algebra.Sorted (B ground) (Beneath ground.variables ground.order);
   nth = λ T k. get_or T (k - 1) [];
 }
