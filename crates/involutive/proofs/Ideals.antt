@@ -3,10 +3,10 @@ use Rattle.std.proofs.Common.{◌≡◌, ℕ, ◌<◌, List, [], ◌∷◌, ◌+
 use mathlib.Core.List.Memᴰ
 use mathlib.Core.List.{Memᴰ}
 use Rattle.field.specs.Field.{FieldMeaning}
-use Rattle.monomial.specs.Monomial.{In, one, times, Divides}
+use Rattle.monomial.specs.Monomial.{In, one}
 use Rattle.polynomial.specs.declared.term.Term.{Term}
 use Rattle.polynomial.specs.Polynomial.{Poly, exponents, Over}
-use Rattle.involutive.specs.Value.{at, Equal, plus, minus, scaled, negated, product}
+use Rattle.involutive.specs.Value.{Equal, plus, minus, scaled, negated, product}
 use Rattle.involutive.specs.Ideal.{Member, SameIdeal}
 use Rattle.involutive.proofs.Algebra
 use Rattle.involutive.proofs.Algebra.{Base, Span}
@@ -41,26 +41,6 @@ module _ (ground : Ground) where
 
   pub over_product : (f : Poly) → Over F N f → (g : Poly) → Over F N g → Over F N (product F f g)
   over_product = each _ (λ p. each _ (λ q. rw (← (Typing.raw_product ground p q)) (Typing.raw_over ground (Algebra.product B p q))))
-
-  pub at_plus : (f : Poly) → Over F N f → (g : Poly) → Over F N g → (m : List ℕ) → In N m → at F (plus f g) m ≡ F.add (at F f m) (at F g m)
-  at_plus = each _ (λ p. each _ (λ q m w.
-      rw (← (Typing.raw-++ ground p q), Typing.raw_at ground (p ++ q) (m, w), Typing.raw_at ground p (m, w), Typing.raw_at ground q (m, w))
-      (ap (λ c. c.0) (ap (λ v. v (m, w)) (Algebra.at-++ B p q) ∙ Algebra.⊕-at B (Algebra.at B p) (Algebra.at B q) (m, w)))))
-
-  pub at_scaled : (c : ℕ) (a : List ℕ) → c < F.q → In N a → (f : Poly) → Over F N f → (m : List ℕ) → In N m → at F (scaled F c a f) (times a m) ≡ F.mul c (at F f m)
-  at_scaled c a h w = each _ (λ p m v. let n : Mono N = Monomials.mul (a, w) (m, v) in
-      rw (← (Typing.raw_scaled ground (c, h) (a, w) p), Typing.raw_at ground (Algebra.scaled B (c, h) (a, w) p) n, Typing.raw_at ground p (m, v))
-      (ap (λ c. c.0) (ap (λ v. v n) (Algebra.at_scaled B (c, h) (a, w) p) ∙ Algebra.shift_at B (c, h) (a, w) (Algebra.at B p) (m, v))))
-
-  -- and 0 at what a does not divide
-  pub at_scaled_off : (c : ℕ) (a : List ℕ) → c < F.q → In N a → (f : Poly) → Over F N f → (m : List ℕ) → In N m → (Divides a m → ⊥) → at F (scaled F c a f) m ≡ 0
-  at_scaled_off c a h w = each _ (λ p m v' n.
-      rw (← (Typing.raw_scaled ground (c, h) (a, w) p), Typing.raw_at ground (Algebra.scaled B (c, h) (a, w) p) (m, v'))
-      (ap (λ c. c.0) (ap (λ v. v (m, v')) (Algebra.at_scaled B (c, h) (a, w) p) ∙ Algebra.shift_off B (c, h) (a, w) (Algebra.at B p) (m, v') (λ k e. n (subst (λ x. Divides a x.0) (sym e) (Monomials.divides_mul (a, w) k))))))
-
-  pub at_negated : (f : Poly) → Over F N f → (m : List ℕ) → In N m → at F (negated F f) m ≡ F.neg (at F f m)
-  at_negated = each _ (λ p m w.
-      rw (← (Typing.raw_negated ground p), Typing.raw_at ground (Algebra.negated B p) (m, w), Typing.raw_at ground p (m, w), Algebra.at_negated B p) (Typing.raw_neg ground (Algebra.at B p) (m, w)))
 
   to : {f g : Poly} (p q : Typed) → raw p ≡ f → raw q ≡ g → Algebra.at B p ≡ Algebra.at B q → Equal F f g
   to p q e e' h = rw (← e, ← e') (Typing.to_equal ground p q h)

@@ -89,6 +89,7 @@ module _ (ground : Ground) where
   abbrev pub Typed : Type 0
   Typed = List (Code F × Mono N)
 
+  -- a term without its proofs
   abbrev pub bare : Code F × Mono N → Term
   bare t = term t.0.0 t.1.0
 
@@ -127,10 +128,6 @@ module _ (ground : Ground) where
       go : Dec (t.1 ≡ m) → Value.at F (raw f) m.0 ≡ (Algebra.at B f m).0 → Value.at F (raw (t ∷ f)) m.0 ≡ F.add (Algebra.single B t.0 t.1 m).0 (Algebra.at B f m).0
       go (yes e) h = cond-true _ _ _ (Monomials.same_yes t.1 m e) ∙ cc (h, ap (λ c. c.0) (Algebra.single_at B t.0 t.1 m e))
       go (no n) h = cond-false _ _ _ (Monomials.same_no t.1 m n) ∙ cc (h, ap (λ c. c.0) (Algebra.single_off B t.0 t.1 m n), L.zero_neutral (Algebra.at B f m).0 (Algebra.at B f m).1)
-
-  pub raw_neg : (v : Algebra.V B) (m : Mono N) → (Algebra.⊖ B v m).0 ≡ F.neg (v m).0
-  unfolding Algebra.⊖
-  raw_neg v m = refl
 
   -- lists of terms stand for the same polynomial where their values are the same
   pub from_equal : (f g : Typed) → Equal F (raw f) (raw g) → Algebra.at B f ≡ Algebra.at B g
@@ -224,7 +221,7 @@ module _ (ground : Ground) where
   nonzero_scaled c a [] h n t m = elim m [ ]
   nonzero_scaled c a (s ∷ p) h n t m = ⊎_elim (λ e. rw e (product_pos c s.0 h (n _ (Memᴰ.head refl)))) (λ k. nonzero_scaled c a p h (λ x k. n x (Memᴰ.tail k)) t k) (Memᴰ.cases_cons m)
 
--- what a section over a ground calls the things above
+-- what a section over a ground calls the things above; it opens those that it needs
 pub record Words : Type 1 where
   pub ground : Ground
   pub B : Base
