@@ -1,17 +1,15 @@
 -- The table of a closed sheet: every multiple of a row is a sum of involutive multiples, so remainders are determined and the minimal rows generate.
 use Rattle.std.proofs.Common.{◌≡◌, ℕ, zero, suc, ◌-◌, ◌<◌, ◌≤◌, Bool, true, false, ◌⊎◌, List, [], ◌∷◌, map, length, get_or, Some, sym, ap, ◌∙◌, subst, inl, inr, ⊎_elim, arith}
+use mathlib.Core.List.Memᴰ
 use mathlib.Core.List.{Memᴰ}
 use mathlib.Core.WellFounded.InvImage
 use mathlib.Core.WellFounded.{Acc}
 use native.Mathlib.Decide.{dec_lt}
 use Rattle.involutive.proofs.Walks
 use Rattle.std.proofs.lemmas.Bool.{cases_eq}
-use Rattle.field.specs.Field.{FieldMeaning}
-use Rattle.monomial.specs.Order.{Compare}
-use Rattle.monomial.specs.Division.{Split, DivisionLaws, Within, Involutive, Next}
+use Rattle.monomial.specs.Division.{Within, Involutive, Next}
 use Rattle.monomial.specs.Monomial.{exponent, variable, times}
 use Rattle.involutive.specs.Value
-use Rattle.polynomial.specs.Polynomial.{Poly, term}
 use Rattle.involutive.specs.Sheet.{Setting, Lawful}
 use Rattle.involutive.specs.Reduction.{Irreducible, row, leaders, left, Reduces}
 use Rattle.involutive.proofs.Algebra
@@ -19,49 +17,16 @@ use Rattle.involutive.proofs.Algebra.{Base, Span}
 use Rattle.involutive.proofs.Sums
 use Rattle.involutive.proofs.Monomials
 use Rattle.involutive.proofs.Monomials.{Mono}
-use Rattle.involutive.proofs.Typing
-use Rattle.involutive.proofs.Typing.{Ground, ground_of, Code, base, Beneath}
+use Rattle.involutive.proofs.Typing.{bare, ground_of, words, Code, Beneath}
 use Rattle.involutive.proofs.Tables
 use Rattle.involutive.proofs.Tables.{Monic, Good}
 use Rattle.involutive.proofs.WrittenLists
 use Rattle.involutive.proofs.Lists
 
 module _ (S : Setting) (W : Lawful S) where
-  abbrev ground : Ground
-  ground = ground_of S W
-
-  abbrev F : FieldMeaning
-  F = S.field
-
-  abbrev N : ℕ
-  N = S.variables
-
-  abbrev O : Compare
-  O = S.order
-
-  abbrev D : Split
-  D = S.division
-
-  abbrev E : DivisionLaws D
-  E = W.division
-
-  abbrev B : Base
-  B = base W.field N
-
-  abbrev Typed : Type 0
-  Typed = Typing.Typed ground
-
-  abbrev raw : Typed → Poly
-  raw = Typing.raw ground
-
-  abbrev lead : Typed → Mono N
-  lead = Typing.lead ground
-
-  abbrev Sorted : Typed → Type 0
-  Sorted = Algebra.Sorted B (Beneath N O)
-
-  abbrev nth : List Typed → ℕ → Typed
-  nth T k = get_or T (k - 1) []
+  open S use {field as F, variables as N, order as O, division as D}
+  open W use {division as E}
+  open words (ground_of S W) use {ground, B, Typed, raw, lead, minus, Sorted, nth}
 
   module _ (T : List Typed) (G : Good S W T) where
     abbrev U : List (List ℕ)
@@ -135,15 +100,10 @@ module _ (S : Setting) (W : Lawful S) where
           subst (Sums.Sum B chart (λ m. Unit)) (sym (e ∙ ap (λ x. Algebra.◌⊕◌ B (Algebra.shift B c a (Algebra.at B x)) w) d)) (Sums.sum-⊕ B chart (Sums.sum_map B chart (λ m y. tt) (Sums.tame B chart NextRow row_wf split c k a)) (span_sum s))
 
       absent : (p : Typed) → Irreducible F O D N (map raw T) (raw p) → Sums.Irreducible B chart (Algebra.at B p)
-      absent p h k a m = Algebra.at_absent B p (Monomials.mul a (lead (nth T k.0))) (λ t i e. h (term t.0.0 t.1.0) (raw_mem p i) k.0 (subst (λ y. Involutive D U k.0 y.0) (sym e) (Tables.involutive S W T G k a m)))
-        where
-          raw_mem : (p : Typed) {t : Code F × Mono N} → Memᴰ t p → Memᴰ (term t.0.0 t.1.0) (raw p)
-          raw_mem [] i = elim i [ ]
-          raw_mem (s ∷ p) (Memᴰ.head e) = Memᴰ.head (ap (λ t. term t.0.0 t.1.0) e)
-          raw_mem (s ∷ p) (Memᴰ.tail i) = Memᴰ.tail (raw_mem p i)
+      absent p h k a m = Algebra.at_absent B p (Monomials.mul a (lead (nth T k.0))) (λ t i e. h (bare ground t) (Memᴰ.map (bare ground) i) k.0 (subst (λ y. Involutive D U k.0 y.0) (sym e) (Tables.involutive S W T G k a m)))
 
       -- irreducible polynomials that differ by a member of the ideal are the same
-      pub one_remainder : (p q : Typed) → Sorted p → Sorted q → Irreducible F O D N (map raw T) (raw p) → Irreducible F O D N (map raw T) (raw q) → Span B T (Algebra.◌⊕◌ B (Algebra.at B p) (Algebra.⊖ B (Algebra.at B q))) → p ≡ q
+      pub one_remainder : (p q : Typed) → Sorted p → Sorted q → Irreducible F O D N (map raw T) (raw p) → Irreducible F O D N (map raw T) (raw q) → Span B T (minus p q) → p ≡ q
       one_remainder p q s t i j h = Algebra.sorted_eq B (Beneath N O) (WrittenLists.line ground) s t
           (Algebra.minus_zero B (Algebra.at B p) (Algebra.at B q) (Sums.irreducible_zero B chart (span_sum h) (λ k a m. Algebra.minus_off B (Algebra.at B p) (Algebra.at B q) _ (absent p i k a m) (absent q j k a m))))
 
@@ -173,7 +133,7 @@ module _ (S : Setting) (W : Lawful S) where
         pub inside : Span B P (Algebra.at B poly)
         pub monic : Monic S W poly
         pub leads : lead poly ≡ leader k
-        pub span : Span B T (Algebra.◌⊕◌ B (Algebra.at B (nth T k.0)) (Algebra.⊖ B (Algebra.at B poly)))
+        pub span : Span B T (minus (nth T k.0) poly)
 
       record Lower (k : R) : Type 0 where
         j : R

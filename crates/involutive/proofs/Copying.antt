@@ -1,5 +1,5 @@
 -- The list of copies, row by row.
-use Rattle.std.proofs.Common.{◌≡◌, ℕ, ◌-◌, List, [], ◌∷◌, ◌++◌, take, drop, sym, refl, subst, ⊎_elim, arith}
+use Rattle.std.proofs.Common.{◌≡◌, ℕ, ◌-◌, List, [], ◌∷◌, ◌++◌, take, drop, sym, refl, subst, ⊎_elim}
 use mathlib.Core.List.Memᴰ
 use mathlib.Core.List.{Memᴰ}
 use Rattle.polynomial.specs.Polynomial.{Poly}
@@ -25,8 +25,8 @@ module _ (S : Setting) (s : State) where
 
   go : {ks : List ℕ} {o : Copied} → Copies S s ks o → (fs : List Poly) → o ≡ copies fs → Beside ks fs
   go copy_end fs e = cast no_more e
-  go (copy_stuck r) fs e = let z : ◌≡◌ {A = ℕ} 0 1 = cc in absurd (omega arith)
-  go (copy_later r c) fs e = let z : ◌≡◌ {A = ℕ} 0 1 = cc in absurd (omega arith)
+  go (copy_stuck r) fs e = cc
+  go (copy_later r c) fs e = cc
   go (copy_row {g = g} {fs = gs} r c) fs e = cast (one_more (record { rest = g; reduced = r; is = refl }) (go c gs refl)) e
 
   pub beside : {ks : List ℕ} {fs : List Poly} → Copies S s ks (copies fs) → Beside ks fs

@@ -39,7 +39,7 @@ module _ {A : Type 0} where
   given None t = absurd t
 
   pub no_some : {B : Type 0} {a : A} → None ≡ Some a → B
-  no_some e = let z : ◌≡◌ {A = ℕ} 0 1 = cc in absurd (omega arith)
+  no_some e = cc
 
 abbrev pub passes : (b : Bool) → Option (b ≡ true)
 passes true = Some refl

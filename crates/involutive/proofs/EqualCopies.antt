@@ -2,11 +2,11 @@
 use Rattle.std.proofs.Common.{◌≡◌, ℕ, suc, ◌-◌, ◌≤◌, List, [], ◌∷◌, ◌++◌, length, get_or, take, drop, sym, refl, ap, ◌∙◌, subst, arith}
 use mathlib.Core.List.{Memᴰ}
 use lib.ListN.{length-map}
+use Rattle.std.proofs.lemmas.List.{get_or-map}
 use lib.Seq.{take-append_seam}
 use Rattle.polynomial.specs.declared.term.Term.{Term}
-use Rattle.field.specs.Field.{FieldMeaning, FieldLaws}
 use Rattle.monomial.specs.Monomial.{In, Wide, times, quotient, Divides}
-use Rattle.monomial.specs.Order.{Compare, OrderLaws, Under}
+use Rattle.monomial.specs.Order.{Under}
 use Rattle.monomial.specs.Division.{Split, DivisionLaws, Within, Involutive}
 use Rattle.polynomial.specs.Reading.{Wides}
 use Rattle.polynomial.specs.Polynomial.{Poly, Over, term, exponents, Written, leading}
@@ -21,7 +21,7 @@ use Rattle.involutive.specs.Complete.{GrantedCopy, under_division, CopiesDecide}
 use Rattle.monomial.specs.Places.{agree_all, low}
 use Rattle.involutive.proofs.Lists
 use Rattle.involutive.proofs.Monomials
-use Rattle.involutive.proofs.Typing.{Ground, ground_of}
+use Rattle.involutive.proofs.Typing.{ground_of, words}
 use Rattle.involutive.proofs.Ideals
 use Rattle.involutive.proofs.Bytes
 use Rattle.involutive.proofs.Copying.{CopyOf, Beside, no_more, one_more, beside, copy_from, copy_to}
@@ -52,31 +52,17 @@ granted : (S : Setting) (s : State) (b : List ℕ) → GrantedCopy S s b → Cop
 granted S s b G = go G.grant refl G.front
   where
     go : {a : Answer} {after : List ℕ} → FairCopies S s G.out a after → a ≡ copied_answer G.rows (length b) → take (length b) after ≡ b → CopiedBytes S s b
-    go (copy_open n) e d = let z : ◌≡◌ {A = ℕ} 0 1 = cc in absurd (omega arith)
-    go (copy_denied c z m) e d = let z : ◌≡◌ {A = ℕ} 0 1 = cc in absurd (omega arith)
-    go (copy_short c z m l) e d = let z : ◌≡◌ {A = ℕ} 0 1 = cc in absurd (omega arith)
+    go (copy_open n) e d = cc
+    go (copy_denied c z m) e d = cc
+    go (copy_short c z m l) e d = cc
     go (copy_written {ks = ks} {fs = fs} c z m l) e d =
         let n : length (copy_bytes fs) ≡ length b = cc in
         record { ks = ks; fs = fs; selection = z; copied = m; bytes = sym d ∙ ap (λ i. take i (front (copy_bytes fs) G.out)) (sym n) ∙ take-append_seam (copy_bytes fs) (drop (length (copy_bytes fs)) G.out) }
 
 module _ (S : Setting) (W : Lawful S) where
-  abbrev ground : Ground
-  ground = ground_of S W
-
-  abbrev F : FieldMeaning
-  F = S.field
-
-  abbrev L : FieldLaws F
-  L = W.field
-
-  abbrev N : ℕ
-  N = S.variables
-
-  abbrev O : Compare
-  O = S.order
-
-  abbrev Q : OrderLaws O
-  Q = W.order
+  open S use {field as F, variables as N, order as O}
+  open W use {field as L, order as Q}
+  open words (ground_of S W) use {ground}
 
   abbrev set : Split → Setting
   set D = under_division S D
@@ -138,7 +124,7 @@ module _ (S : Setting) (W : Lawful S) where
     shown t f w h =
         let r = Sheets.lead_divisor (set D) (lawful E) A.s A.sound A.closed t f w h in
         let v : InRows r.0 = rw (length-map A.s.rows leading) at r.1.within in
-        record { k = r.0; within = v; divides = subst (λ x. Divides x (exponents t)) (Soundness.lead_at A.s.rows (r.0 - 1) (omega arith)) r.1.divides }
+        record { k = r.0; within = v; divides = subst (λ x. Divides x (exponents t)) (get_or-map leading A.s.rows (r.0 - 1) [] [] (omega arith)) r.1.divides }
 
   abbrev Inside : {D D' : Split} {E : DivisionLaws D} {E' : DivisionLaws D'} → Side D E → Side D' E' → Type 0
   Inside A C = (f : Poly) → Over F N f → Member F N A.s.rows f → Member F N C.s.rows f
@@ -182,7 +168,7 @@ module _ (S : Setting) (W : Lawful S) where
         let c : In N (exponents t) = (w.over t m).1 in
         let a : List ℕ = quotient (exponents t) (leader A k) in
         let an : In N a = Monomials.in_quotient (leader A k) c (wide_leader A k) in
-        let l : Divides (leader A k) (exponents t) = subst (λ x. Divides x (exponents t)) (Soundness.lead_at A.s.rows (k - 1) (omega arith)) v.divides in
+        let l : Divides (leader A k) (exponents t) = subst (λ x. Divides x (exponents t)) (get_or-map leading A.s.rows (k - 1) [] [] (omega arith)) v.divides in
         let p : Poly = scaled F 1 a (row A.s.rows k) in
         let pw : Written F O N p = WrittenLists.written_scaled ground 1 a (omega arith) L.differ an (row A.s.rows k) f.good in
         let pm : Member F N A.s.rows p = Ideals.member_scaled ground 1 a L.differ an A.s.rows (rows_over A) (row A.s.rows k) f.good.over (row_member A k n) in

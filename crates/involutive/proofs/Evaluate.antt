@@ -6,7 +6,7 @@ use Rattle.polynomial.specs.declared.term.Term.{Term}
 use Rattle.field.specs.Field.{FieldMeaning}
 use Rattle.monomial.specs.Monomial.{Divides}
 use Rattle.monomial.specs.Order.{Compare, Under}
-use Rattle.monomial.specs.Division.{Split, Involutive}
+use Rattle.monomial.specs.Division.{Involutive}
 use Rattle.polynomial.specs.Polynomial.{Poly, term, exponents, leading}
 use Rattle.involutive.specs.Value.{minus}
 use Rattle.involutive.specs.Reduction.{Table, row, leaders, left, Irreducible, multiple, Difference, Reduces, done, acts}
@@ -36,17 +36,7 @@ module _ (F : FieldMeaning) (O : Compare) where
   tidy (t ∷ f) = insert t (tidy f)
 
 module _ (S : Setting) (R : Table) where
-  abbrev F : FieldMeaning
-  F = S.field
-
-  abbrev O : Compare
-  O = S.order
-
-  abbrev D : Split
-  D = S.division
-
-  abbrev N : ℕ
-  N = S.variables
+  open S use {field as F, variables as N, order as O, division as D}
 
   abbrev irreducible? : (h : Poly) → Option (Irreducible F O D N R h)
   irreducible? h = each? (λ t. no_divisor? D (leaders R) (exponents t)) h

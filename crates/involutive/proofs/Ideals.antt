@@ -2,11 +2,11 @@
 use Rattle.std.proofs.Common.{◌≡◌, ℕ, ◌<◌, List, [], ◌∷◌, ◌++◌, map, sym, refl, ap, ◌∙◌, subst, subst₂, ⊎_elim}
 use mathlib.Core.List.Memᴰ
 use mathlib.Core.List.{Memᴰ}
-use Rattle.field.specs.Field.{FieldMeaning, FieldLaws}
-use Rattle.monomial.specs.Monomial.{In, one, times, Divides}
+use Rattle.field.specs.Field.{FieldMeaning}
+use Rattle.monomial.specs.Monomial.{In, one}
 use Rattle.polynomial.specs.declared.term.Term.{Term}
 use Rattle.polynomial.specs.Polynomial.{Poly, exponents, Over}
-use Rattle.involutive.specs.Value.{at, Equal, plus, minus, scaled, negated, product}
+use Rattle.involutive.specs.Value.{Equal, plus, minus, scaled, negated, product}
 use Rattle.involutive.specs.Ideal.{Member, SameIdeal}
 use Rattle.involutive.proofs.Algebra
 use Rattle.involutive.proofs.Algebra.{Base, Span}
@@ -14,30 +14,14 @@ use Rattle.involutive.proofs.Monomials
 use Rattle.involutive.proofs.Monomials.{Mono}
 use Rattle.involutive.proofs.Typing
 use Rattle.involutive.proofs.Membership
-use Rattle.involutive.proofs.Typing.{Ground, Code, base}
-use Rattle.involutive.proofs.Lists
+use Rattle.involutive.proofs.Typing.{Ground, words, Code, base}
 
 abbrev pub Overs : FieldMeaning → ℕ → List Poly → Type 0
 Overs F N gs = (g : Poly) → Memᴰ g gs → Over F N g
 
 module _ (ground : Ground) where
-  abbrev F : FieldMeaning
-  F = ground.field
-
-  abbrev L : FieldLaws F
-  L = ground.laws
-
-  abbrev N : ℕ
-  N = ground.variables
-
-  abbrev B : Base
-  B = base L N
-
-  abbrev Typed : Type 0
-  Typed = Typing.Typed ground
-
-  abbrev raw : Typed → Poly
-  raw = Typing.raw ground
+  open ground use {field as F, variables as N}
+  open words ground use {B, Typed, raw}
 
   -- what holds of every typed polynomial holds of every polynomial over F
   pub each : (Q : Poly → Type 0) → ((p : Typed) → Q (raw p)) → (f : Poly) → Over F N f → Q f
@@ -57,26 +41,6 @@ module _ (ground : Ground) where
 
   pub over_product : (f : Poly) → Over F N f → (g : Poly) → Over F N g → Over F N (product F f g)
   over_product = each _ (λ p. each _ (λ q. rw (← (Typing.raw_product ground p q)) (Typing.raw_over ground (Algebra.product B p q))))
-
-  pub at_plus : (f : Poly) → Over F N f → (g : Poly) → Over F N g → (m : List ℕ) → In N m → at F (plus f g) m ≡ F.add (at F f m) (at F g m)
-  at_plus = each _ (λ p. each _ (λ q m w.
-      rw (← (Typing.raw-++ ground p q), Typing.raw_at ground (p ++ q) (m, w), Typing.raw_at ground p (m, w), Typing.raw_at ground q (m, w))
-      (ap (λ c. c.0) (ap (λ v. v (m, w)) (Algebra.at-++ B p q) ∙ Algebra.⊕-at B (Algebra.at B p) (Algebra.at B q) (m, w)))))
-
-  pub at_scaled : (c : ℕ) (a : List ℕ) → c < F.q → In N a → (f : Poly) → Over F N f → (m : List ℕ) → In N m → at F (scaled F c a f) (times a m) ≡ F.mul c (at F f m)
-  at_scaled c a h w = each _ (λ p m v. let n : Mono N = Monomials.mul (a, w) (m, v) in
-      rw (← (Typing.raw_scaled ground (c, h) (a, w) p), Typing.raw_at ground (Algebra.scaled B (c, h) (a, w) p) n, Typing.raw_at ground p (m, v))
-      (ap (λ c. c.0) (ap (λ v. v n) (Algebra.at_scaled B (c, h) (a, w) p) ∙ Algebra.shift_at B (c, h) (a, w) (Algebra.at B p) (m, v))))
-
-  -- and 0 at what a does not divide
-  pub at_scaled_off : (c : ℕ) (a : List ℕ) → c < F.q → In N a → (f : Poly) → Over F N f → (m : List ℕ) → In N m → (Divides a m → ⊥) → at F (scaled F c a f) m ≡ 0
-  at_scaled_off c a h w = each _ (λ p m v' n.
-      rw (← (Typing.raw_scaled ground (c, h) (a, w) p), Typing.raw_at ground (Algebra.scaled B (c, h) (a, w) p) (m, v'))
-      (ap (λ c. c.0) (ap (λ v. v (m, v')) (Algebra.at_scaled B (c, h) (a, w) p) ∙ Algebra.shift_off B (c, h) (a, w) (Algebra.at B p) (m, v') (λ k e. n (subst (λ x. Divides a x.0) (sym e) (Monomials.divides_mul (a, w) k))))))
-
-  pub at_negated : (f : Poly) → Over F N f → (m : List ℕ) → In N m → at F (negated F f) m ≡ F.neg (at F f m)
-  at_negated = each _ (λ p m w.
-      rw (← (Typing.raw_negated ground p), Typing.raw_at ground (Algebra.negated B p) (m, w), Typing.raw_at ground p (m, w), Algebra.at_negated B p) (Typing.raw_neg ground (Algebra.at B p) (m, w)))
 
   to : {f g : Poly} (p q : Typed) → raw p ≡ f → raw q ≡ g → Algebra.at B p ≡ Algebra.at B q → Equal F f g
   to p q e e' h = rw (← e, ← e') (Typing.to_equal ground p q h)
@@ -158,7 +122,7 @@ module _ (ground : Ground) where
       member gs (p ++ Algebra.negated B q) (Typing.raw_minus ground p q) (subst (Span B gs) (sym e) (Algebra.span-⊕ B (Membership.member_span ground gs (u ∷ p) h) (Algebra.span-⊖ B (Membership.member_span ground gs (u ∷ q) k)))))))
 
   pub member_generator : (gs : List Poly) → Overs F N gs → (g : Poly) → Memᴰ g gs → Member F N gs g
-  member_generator = eachs _ (λ gs g h. let r = Lists.map_member raw gs h in member gs r.0 r.2 (Algebra.span_gen B r.1))
+  member_generator = eachs _ (λ gs g h. let r = Memᴰ.of_map raw gs h in member gs r.0 r.2 (Algebra.span_gen B r.1))
 
   pub turned : {gs hs : List Poly} → SameIdeal F N gs hs → SameIdeal F N hs gs
   turned h f o = ((h f o).1, (h f o).0)
@@ -168,11 +132,11 @@ module _ (ground : Ground) where
 
   -- the ideals are the same where each generator is a member of the other
   pub same_ideal : (gs : List Poly) → Overs F N gs → (hs : List Poly) → Overs F N hs → ((g : Poly) → Memᴰ g gs → Member F N hs g) → ((h : Poly) → Memᴰ h hs → Member F N gs h) → SameIdeal F N gs hs
-  same_ideal = eachs _ (λ gs. eachs _ (λ hs p q. Membership.same_ideal ground gs hs (λ g m. Membership.member_span ground hs g (p (raw g) (Lists.member_map raw gs m))) (λ h m. Membership.member_span ground gs h (q (raw h) (Lists.member_map raw hs m)))))
+  same_ideal = eachs _ (λ gs. eachs _ (λ hs p q. Membership.same_ideal ground gs hs (λ g m. Membership.member_span ground hs g (p (raw g) (Memᴰ.map raw m))) (λ h m. Membership.member_span ground gs h (q (raw h) (Memᴰ.map raw m)))))
 
   -- members of the ideal of gs, where each of gs lies in that of hs
   pub member_through : (gs : List Poly) → Overs F N gs → (hs : List Poly) → Overs F N hs → ((g : Poly) → Memᴰ g gs → Member F N hs g) → (f : Poly) → Over F N f → Member F N gs f → Member F N hs f
-  member_through = eachs _ (λ gs. eachs _ (λ hs p. each _ (λ f m. Membership.span_member ground hs f (Algebra.span_trans B (λ g h. Membership.member_span ground hs g (p (raw g) (Lists.member_map raw gs h))) (Membership.member_span ground gs f m)))))
+  member_through = eachs _ (λ gs. eachs _ (λ hs p. each _ (λ f m. Membership.span_member ground hs f (Algebra.span_trans B (λ g h. Membership.member_span ground hs g (p (raw g) (Memᴰ.map raw h))) (Membership.member_span ground gs f m)))))
 
   pub over_append : (gs hs : List Poly) → Overs F N gs → Overs F N hs → Overs F N (gs ++ hs)
   over_append gs hs o o' g m = ⊎_elim (λ k. o g k) (λ k. o' g k) (Memᴰ.append_cases gs m)

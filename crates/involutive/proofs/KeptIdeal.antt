@@ -2,9 +2,7 @@
 use Rattle.std.proofs.Common.{ℕ, ◌-◌, ◌<◌, List, [], ◌∷◌, ◌++◌, sym, refl, subst, ⊎_elim, arith}
 use mathlib.Core.List.Memᴰ
 use mathlib.Core.List.{Memᴰ}
-use Rattle.field.specs.Field.{FieldMeaning, FieldLaws}
 use Rattle.monomial.specs.Monomial.{one, variable}
-use Rattle.monomial.specs.Order.{Compare}
 use Rattle.polynomial.specs.declared.term.Term.{Term}
 use Rattle.polynomial.specs.Polynomial.{Poly, Over, Written}
 use Rattle.involutive.specs.Value.{scaled, minus, negated}
@@ -16,7 +14,7 @@ use Rattle.involutive.specs.Log.{Call, After, made, added, not_added, stepped, r
 use Rattle.involutive.specs.Sound.{Sound}
 use Rattle.involutive.specs.Complete.{KeepsIdeal}
 use Rattle.involutive.proofs.Monomials
-use Rattle.involutive.proofs.Typing.{Ground, ground_of}
+use Rattle.involutive.proofs.Typing.{ground_of, words}
 use Rattle.involutive.proofs.Ideals
 use Rattle.involutive.proofs.Ideals.{Overs}
 use Rattle.involutive.proofs.Soundness
@@ -24,20 +22,9 @@ use Rattle.involutive.proofs.Sheets
 use Rattle.involutive.proofs.Lists
 
 module _ (S : Setting) (W : Lawful S) where
-  abbrev ground : Ground
-  ground = ground_of S W
-
-  abbrev F : FieldMeaning
-  F = S.field
-
-  abbrev L : FieldLaws F
-  L = W.field
-
-  abbrev N : ℕ
-  N = S.variables
-
-  abbrev O : Compare
-  O = S.order
+  open S use {field as F, variables as N, order as O}
+  open W use {field as L}
+  open words (ground_of S W) use {ground}
 
   -- the ideal of the rows, and that the generators are polynomials
   pub record Keeps (s : State) (gs : List Poly) : Type 0 where
@@ -45,10 +32,10 @@ module _ (S : Setting) (W : Lawful S) where
     pub same : SameIdeal F N s.rows gs
 
   alone : (f : Poly) → Over F N f → Overs F N (f ∷ [])
-  alone f o g h = ⊎_elim (λ e. subst (Over F N) (sym e) o) (λ k. elim k [ ]) (Memᴰ.cases_cons h)
+  alone f o g h = subst (Over F N) (sym (Memᴰ.eq_of_singleton h)) o
 
   only : {gs : List Poly} (f : Poly) → Member F N gs f → (g : Poly) → Memᴰ g (f ∷ []) → Member F N gs g
-  only {gs} f m g h = ⊎_elim (λ e. subst (Member F N gs) (sym e) m) (λ k. elim k [ ]) (Memᴰ.cases_cons h)
+  only {gs} f m g h = subst (Member F N gs) (sym (Memᴰ.eq_of_singleton h)) m
 
   last : (gs : List Poly) (f : Poly) → Memᴰ f (gs ++ (f ∷ []))
   last gs f = Memᴰ.append_right gs (Memᴰ.head refl)

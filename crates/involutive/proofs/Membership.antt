@@ -1,34 +1,19 @@
 -- A polynomial lies in an ideal exactly when the generators span its value.
-use Rattle.std.proofs.Common.{◌≡◌, ℕ, suc, ◌↔◌, List, [], ◌∷◌, ◌++◌, map, length, sym, refl, ap, ◌∙◌, subst, ⊎_elim, arith}
+use Rattle.std.proofs.Common.{◌≡◌, suc, ◌↔◌, List, [], ◌∷◌, ◌++◌, map, length, sym, refl, ap, ◌∙◌, subst, arith}
 use mathlib.Core.List.Memᴰ
 use mathlib.Core.List.{Memᴰ}
-use Rattle.field.specs.Field.{FieldMeaning, FieldLaws}
-use Rattle.polynomial.specs.Polynomial.{Poly, Over}
+use lib.ListN.{length-map}
+use Rattle.polynomial.specs.Polynomial.{Over}
 use Rattle.involutive.specs.Ideal.{combination, Member, SameIdeal}
 use Rattle.involutive.proofs.Algebra
 use Rattle.involutive.proofs.Algebra.{Base, Span}
 use Rattle.involutive.proofs.Monomials.{Mono}
 use Rattle.involutive.proofs.Typing
-use Rattle.involutive.proofs.Typing.{Ground, Code, base}
+use Rattle.involutive.proofs.Typing.{Ground, words, Code, base}
 
 module _ (ground : Ground) where
-  abbrev F : FieldMeaning
-  F = ground.field
-
-  abbrev L : FieldLaws F
-  L = ground.laws
-
-  abbrev N : ℕ
-  N = ground.variables
-
-  abbrev B : Base
-  B = base L N
-
-  abbrev Typed : Type 0
-  Typed = Typing.Typed ground
-
-  abbrev raw : Typed → Poly
-  raw = Typing.raw ground
+  open ground use {field as F, variables as N}
+  open words ground use {B, Typed, raw}
 
   abbrev total : List Typed → List Typed → Algebra.V B
   total [] gs = Algebra.𝟎 B
@@ -86,24 +71,14 @@ module _ (ground : Ground) where
       let s = one_more c a h r.list r.each in
       record { list = s.list; each = s.each; value = e ∙ ap (Algebra.◌⊕◌ B (Algebra.shift B c a (Algebra.at B g))) r.value ∙ s.value }
 
-  length_raws : (xs gs : List Typed) → length xs ≡ length gs → length (map raw xs) ≡ length (map raw gs)
-  length_raws [] [] e = refl
-  length_raws [] (g ∷ gs) e = absurd (omega arith)
-  length_raws (x ∷ xs) [] e = absurd (omega arith)
-  length_raws (x ∷ xs) (g ∷ gs) e = ap suc (length_raws xs gs (omega arith))
-
-  raws_over : (xs : List Typed) (f : Poly) → Memᴰ f (map raw xs) → Over F N f
-  raws_over [] f h = elim h [ ]
-  raws_over (x ∷ xs) f h = ⊎_elim (λ e. subst (Over F N) (sym e) (Typing.raw_over ground x)) (λ k. raws_over xs f k) (Memᴰ.cases_cons h)
-
   pub span_member : (gs : List Typed) (f : Typed) → Span B gs (Algebra.at B f) → Member F N (map raw gs) (raw f)
   span_member gs f p =
       let r = factors p in
       let c = combined r.list gs in
       record {
         multipliers = map raw r.list;
-        each = length_raws r.list gs r.each;
-        over = raws_over r.list;
+        each = length-map r.list raw ∙ r.each ∙ sym (length-map gs raw);
+        over = λ f h. let x = Memᴰ.of_map raw r.list h in subst (Over F N) x.2 (Typing.raw_over ground x.0);
         sum = rw (← c.1) (Typing.to_equal ground f c.0 (r.value ∙ sym c.2));
       }
 

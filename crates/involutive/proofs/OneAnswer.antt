@@ -1,8 +1,6 @@
 -- Every call has at most one answer, and so a log leaves one state.
-use Rattle.std.proofs.Common.{◌≡◌, ℕ, suc, ◌-◌, ◌<◌, ◌≤◌, cond, eqb, ltb, ◌⊎◌, List, [], ◌∷◌, ◌++◌, length, take, drop, Some, None, Option, sym, refl, ap, ◌∙◌, subst, subst₂, inl, inr, arith}
+use Rattle.std.proofs.Common.{◌≡◌, ℕ, suc, ◌-◌, ◌<◌, ◌≤◌, cond, eqb, ltb, ◌⊎◌, List, [], ◌∷◌, ◌++◌, length, drop, Some, None, Option, sym, refl, ap, ◌∙◌, subst, subst₂, inl, inr, arith}
 use Rattle.std.proofs.lemmas.Bool.{eq-eqb, ne_eqb, lt-ltb, le-ltb, cond-true, cond-false, both_ways}
-use Rattle.field.specs.Field.{FieldMeaning}
-use Rattle.monomial.specs.Order.{Compare}
 use Rattle.polynomial.specs.Polynomial.{Poly}
 use Rattle.involutive.specs.Reduction.{row, Refusal, Outcome, left, refused, refuse}
 use Rattle.polynomial.specs.Check.{Fits, most_terms}
@@ -21,12 +19,6 @@ use Rattle.involutive.specs.Sound.{Sound}
 parts : {A B : Type 0} {x y : A × B} → x ≡ y → (x.0 ≡ y.0) × (x.1 ≡ y.1)
 parts e = (ap (λ x. x.0) e, ap (λ x. x.1) e)
 
-some_is : {q q' : Fault} {o : Option Fault} → o ≡ Some q → o ≡ Some q' → q ≡ q'
-some_is e d = cc
-
-some_none : {q : Fault} {o : Option Fault} → o ≡ Some q → o ≡ None → ⊥
-some_none e d = let z : ◌≡◌ {A = ℕ} 0 1 = cc in omega arith
-
 -- x is what the one thing that P holds of comes to
 record Comes {A X : Type 0} (P : A → Type 0) (result : A → X) (x : X) : Type 0 where
   by : A
@@ -40,24 +32,15 @@ comes_one : {A X : Type 0} {P : A → Type 0} {result : A → X} → ((a b : A) 
 comes_one {result = result} one x y p q = p.is ∙ ap result (one _ _ p.holds q.holds) ∙ sym q.is
 
 module _ (S : Setting) (W : Lawful S) (s : State) (I : Sound S s) where
-  abbrev F : FieldMeaning
-  F = S.field
-
-  abbrev O : Compare
-  O = S.order
-
-  abbrev N : ℕ
-  N = S.variables
-
   -- what a polynomial that is handed over comes to: a fault, or what reducing it comes to
   data Handed (f : Poly) : Fault ⊎ Outcome → Type 0 where
     faulty : {q : Fault} → first_fault S f ≡ Some q → Handed f (inl q)
     reduces : {o : Outcome} → first_fault S f ≡ None → ReducesTo S s most_terms f o → Handed f (inr o)
 
   handed_one : {f : Poly} {x y : Fault ⊎ Outcome} → Handed f x → Handed f y → x ≡ y
-  handed_one (faulty e) (faulty d) = ap inl (some_is e d)
-  handed_one (faulty e) (reduces d r) = absurd (some_none e d)
-  handed_one (reduces e r) (faulty d) = absurd (some_none d e)
+  handed_one (faulty e) (faulty d) = cc
+  handed_one (faulty e) (reduces d r) = cc
+  handed_one (reduces e r) (faulty d) = cc
   handed_one {f} (reduces e r) (reduces d q) = ap inr (reduced_one S W I {room = most_terms} {h = f} (Soundness.no_fault S W f e).written r q)
 
   -- a call that is denied on an open sheet, and looks for something on a closed one
@@ -190,35 +173,17 @@ module _ (S : Setting) (W : Lawful S) (s : State) (I : Sound S s) where
   tail_one : (k : ℕ) {o o' : Outcome} → ReducesTo S s (most_terms - 1) (drop 1 (row s.rows k)) o → ReducesTo S s (most_terms - 1) (drop 1 (row s.rows k)) o' → o ≡ o'
   tail_one k a b = reduced_one S W I {room = most_terms - 1} {h = drop 1 (row s.rows k)} (Soundness.tail_written S W I k) a b
 
-  left_is : {f g : Poly} → left f ≡ left g → f ≡ g
-  left_is e = cc
-
-  left_refused : {f : Poly} {r : Refusal} → left f ≡ refused r → ⊥
-  left_refused e = let z : ◌≡◌ {A = ℕ} 0 1 = cc in omega arith
-
-  refused_is : {r r' : Refusal} → refused r ≡ refused r' → r ≡ r'
-  refused_is e = cc
-
-  result_clash : {fs : List Poly} {r : Refusal} → ◌≡◌ {A = Copied} (copies fs) (copy_refused r) → ⊥
-  result_clash e = let z : ◌≡◌ {A = ℕ} 0 1 = cc in omega arith
-
-  result_is : {fs gs : List Poly} → ◌≡◌ {A = Copied} (copies fs) (copies gs) → fs ≡ gs
-  result_is e = cc
-
   pub copies_one : {ks : List ℕ} {c c' : Copied} → Copies S s ks c → Copies S s ks c' → c ≡ c'
   copies_one Answers.copy_end Answers.copy_end = refl
-  copies_one (Answers.copy_stuck {k = k} r) (Answers.copy_stuck q) = ap {B = Copied} copy_refused (refused_is (tail_one k r q))
-  copies_one (Answers.copy_stuck {k = k} r) (Answers.copy_later q m) = absurd (left_refused (tail_one k q r))
-  copies_one (Answers.copy_stuck {k = k} r) (Answers.copy_row q m) = absurd (left_refused (tail_one k q r))
-  copies_one (Answers.copy_later {k = k} r n) (Answers.copy_stuck q) = absurd (left_refused (tail_one k r q))
+  copies_one (Answers.copy_stuck {k = k} r) (Answers.copy_stuck q) = cc (tail_one k r q)
+  copies_one (Answers.copy_stuck {k = k} r) (Answers.copy_later q m) = cc (tail_one k q r)
+  copies_one (Answers.copy_stuck {k = k} r) (Answers.copy_row q m) = cc (tail_one k q r)
+  copies_one (Answers.copy_later {k = k} r n) (Answers.copy_stuck q) = cc (tail_one k r q)
   copies_one (Answers.copy_later r n) (Answers.copy_later q m) = copies_one n m
-  copies_one (Answers.copy_later r n) (Answers.copy_row q m) = absurd (result_clash (sym (copies_one n m)))
-  copies_one (Answers.copy_row {k = k} r n) (Answers.copy_stuck q) = absurd (left_refused (tail_one k r q))
-  copies_one (Answers.copy_row r n) (Answers.copy_later q m) = absurd (result_clash (copies_one n m))
-  copies_one (Answers.copy_row {k = k} r n) (Answers.copy_row q m) =
-      let e = left_is (tail_one k r q) in
-      let d = result_is (copies_one n m) in
-      λ i. copies ((take 1 (row s.rows k) ++ e i) ∷ d i)
+  copies_one (Answers.copy_later r n) (Answers.copy_row q m) = cc (copies_one n m)
+  copies_one (Answers.copy_row {k = k} r n) (Answers.copy_stuck q) = cc (tail_one k r q)
+  copies_one (Answers.copy_row r n) (Answers.copy_later q m) = cc (copies_one n m)
+  copies_one (Answers.copy_row {k = k} r n) (Answers.copy_row q m) = cc (tail_one k r q, copies_one n m)
 
   -- the rows to copy, and their copies
   record Copying (c : Copied) : Type 0 where
@@ -258,7 +223,7 @@ module _ (S : Setting) (W : Lawful S) (s : State) (I : Sound S s) where
 -- a log leaves one state, and has accepted one list of generators
 module _ (S : Setting) (W : Lawful S) where
   answers_differ : {n : ℕ} {r : Refusal} {s s' : State} → ◌≡◌ {A = Answer × State} (Answers.rows_now n, s) (Answers.denied r, s') → ⊥
-  answers_differ e = let x : ◌≡◌ {A = Answer} (Answers.rows_now _) (Answers.denied _) = ap (λ x. x.0) e in let z : ◌≡◌ {A = ℕ} 0 1 = cc in omega arith
+  answers_differ e = let x : ◌≡◌ {A = Answer} (Answers.rows_now _) (Answers.denied _) = ap (λ x. x.0) e in cc
 
   pub after_one : {calls : List Call} {s₁ s₂ : State} {gs₁ gs₂ : List Poly} → After S calls s₁ gs₁ → After S calls s₂ gs₂ → ◌≡◌ {A = State × List Poly} (s₁, gs₁) (s₂, gs₂)
   after_one made made = refl

@@ -3,9 +3,8 @@ use Rattle.std.proofs.Common.{◌≡◌, ℕ, ◌-◌, ◌≤◌, ◌⊎◌, Lis
 use Rattle.std.proofs.lemmas.Bool.{cases_eq}
 use Rattle.monomial.specs.Places.{length_times}
 use Rattle.monomial.specs.Divisions.{at_variable, at_others, wide_variable}
-use Rattle.field.specs.Field.{FieldMeaning}
 use Rattle.monomial.specs.Monomial.{Wide, width, variable, times}
-use Rattle.monomial.specs.Order.{Compare, Under}
+use Rattle.monomial.specs.Order.{Under}
 use Rattle.monomial.specs.Division.{Within}
 use Rattle.polynomial.specs.Polynomial.{leading}
 use Rattle.involutive.specs.Reduction.{row}
@@ -27,14 +26,7 @@ variable_one v u a b e = ⊎_elim (λ d. omega arith)
     (cases_eq (v - 1) (u - 1))
 
 module _ (S : Setting) (W : Lawful S) (s : State) (I : Sound S s) where
-  abbrev F : FieldMeaning
-  F = S.field
-
-  abbrev O : Compare
-  O = S.order
-
-  abbrev N : ℕ
-  N = S.variables
+  open S use {order as O}
 
   pub chosen_one : {k v j u : ℕ} → Chosen S s k v → Chosen S s j u → (k ≡ j) × (v ≡ u)
   chosen_one {k} {v} {j} {u} a b = go (a.smallest j u b.pair b.unmarked) (b.smallest k v a.pair a.unmarked)

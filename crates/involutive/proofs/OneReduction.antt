@@ -1,10 +1,8 @@
 -- Reducing comes to one thing: the greatest reducible term, the row that divides it and the written difference are determined.
-use Rattle.std.proofs.Common.{◌≡◌, ℕ, ◌⊎◌, List, length, sym, refl, ap, ◌∙◌, subst, subst₂, inl, inr, arith}
+use Rattle.std.proofs.Common.{◌≡◌, ℕ, ◌⊎◌, length, sym, refl, ap, ◌∙◌, subst, subst₂, inl, inr, arith}
 use Rattle.polynomial.specs.declared.term.Term.{Term}
-use Rattle.field.specs.Field.{FieldMeaning}
-use Rattle.monomial.specs.Monomial.{In, Wide}
-use Rattle.monomial.specs.Order.{Compare}
-use Rattle.monomial.specs.Division.{Split, Distinct, Involutive}
+use Rattle.monomial.specs.Monomial.{In}
+use Rattle.monomial.specs.Division.{Distinct, Involutive}
 use Rattle.involutive.specs.Value
 use Rattle.polynomial.specs.Polynomial.{Poly, exponents, Written}
 use Rattle.involutive.specs.Value.{minus}
@@ -13,32 +11,17 @@ use Rattle.polynomial.specs.Check.{Fits}
 use Rattle.involutive.specs.Sheet.{Setting, State, Lawful}
 use Rattle.involutive.specs.Answers.{ReducesTo}
 use Rattle.involutive.proofs.Monomials.{Mono}
-use Rattle.involutive.proofs.Typing.{Ground, ground_of, Beneath}
+use Rattle.involutive.proofs.Typing.{ground_of, words, Beneath}
 use Rattle.involutive.proofs.Soundness
 use Rattle.involutive.specs.Sound.{Sound}
 use Rattle.involutive.proofs.WrittenLists
 
 module _ (S : Setting) (W : Lawful S) where
-  abbrev ground : Ground
-  ground = ground_of S W
-
-  abbrev F : FieldMeaning
-  F = S.field
-
-  abbrev N : ℕ
-  N = S.variables
-
-  abbrev O : Compare
-  O = S.order
-
-  abbrev D : Split
-  D = S.division
+  open S use {field as F, variables as N, order as O, division as D}
+  open words (ground_of S W) use {ground}
 
   module _ (T : Table) (U : Distinct (leaders T)) where
     -- the row that divides is one: the law that no monomial has two involutive divisors
-    one_row : (m : List ℕ) → Wide m → (j k : ℕ) → Involutive D (leaders T) j m → Involutive D (leaders T) k m → j ≡ k
-    one_row m w j k a b = W.division.no_two (leaders T) U m w j k a b
-
     one_action : (h : Poly) → Written F O N h → (t s : Term) (k j : ℕ) → Reducible F O D N T h t k → Reducible F O D N T h s j → (t ≡ s) × (k ≡ j)
     one_action h w t s k j a b = go (WrittenLists.under_tri ground (exponents t, x) (exponents s, y))
       where
@@ -53,7 +36,7 @@ module _ (S : Setting) (W : Lawful S) where
         go (inr (inr l)) = absurd (b.greatest t a.stands l k a.divisor)
         go (inr (inl e)) =
             let d : t ≡ s = WrittenLists.one_term ground h w t s a.stands b.stands (ap (λ m. m.0) e) in
-            (d, one_row (exponents t) x.wide k j a.divisor (subst (λ t. Involutive D (leaders T) j (exponents t)) (sym d) b.divisor))
+            (d, W.division.no_two (leaders T) U (exponents t) x.wide k j a.divisor (subst (λ t. Involutive D (leaders T) j (exponents t)) (sym d) b.divisor))
 
     one_difference : (h : Poly) → Written F O N h → (t s : Term) (k j : ℕ) → Reducible F O D N T h t k → Reducible F O D N T h s j → (g g' : Poly) → Difference F O D N T h (multiple F O D N T t k) g → Difference F O D N T h (multiple F O D N T s j) g' → g ≡ g'
     one_difference h w t s k j a b g g' x y =

@@ -1,8 +1,6 @@
 -- On a closed sheet remainders tell the ideal's classes apart.
-use Rattle.std.proofs.Common.{◌≡◌, ℕ, List, length, take, None, sym, refl, ap, ◌∙◌, subst, arith}
+use Rattle.std.proofs.Common.{◌≡◌, List, length, take, None, sym, refl, ap, ◌∙◌, subst}
 use lib.Seq.{take-append_seam}
-use Rattle.field.specs.Field.{FieldMeaning, FieldLaws}
-use Rattle.monomial.specs.Order.{Compare}
 use Rattle.polynomial.specs.Polynomial.{Poly, Over, Written}
 use Rattle.involutive.specs.Value.{Equal, plus, minus, negated, product}
 use Rattle.involutive.specs.Ideal.{Member}
@@ -16,34 +14,22 @@ use Rattle.involutive.proofs.KeptIdeal
 use Rattle.involutive.specs.Sound.{Sound}
 use Rattle.involutive.specs.Log.{Call, After}
 use Rattle.involutive.proofs.Soundness
-use Rattle.involutive.proofs.Typing.{Ground, ground_of}
+use Rattle.involutive.proofs.Typing.{ground_of, words}
 use Rattle.involutive.proofs.Ideals
 use Rattle.involutive.proofs.Sheets
 
 module _ (S : Setting) (W : Lawful S) where
-  abbrev ground : Ground
-  ground = ground_of S W
-
-  abbrev F : FieldMeaning
-  F = S.field
-
-  abbrev L : FieldLaws F
-  L = W.field
-
-  abbrev N : ℕ
-  N = S.variables
-
-  abbrev O : Compare
-  O = S.order
+  open S use {field as F, variables as N, order as O}
+  open words (ground_of S W) use {ground}
 
   granted : {s : State} {f r : Poly} → Granted S s f r → (first_fault S f ≡ None) × ReducesTo S s most_terms f (left r)
   granted {s} {f} {r} G = go G.grant refl G.front
     where
       go : {a : Answer} {after : Poly} → Remains S s f G.out a after → a ≡ written (length r) → take (length r) after ≡ r → (first_fault S f ≡ None) × ReducesTo S s most_terms f (left r)
-      go (Answers.remainder_open n) e d = let z : ◌≡◌ {A = ℕ} 0 1 = cc in absurd (omega arith)
-      go (Answers.remainder_faulty n x) e d = let z : ◌≡◌ {A = ℕ} 0 1 = cc in absurd (omega arith)
-      go (Answers.remainder_stuck n x y) e d = let z : ◌≡◌ {A = ℕ} 0 1 = cc in absurd (omega arith)
-      go (Answers.remainder_short n x y z) e d = let z : ◌≡◌ {A = ℕ} 0 1 = cc in absurd (omega arith)
+      go (Answers.remainder_open n) e d = cc
+      go (Answers.remainder_faulty n x) e d = cc
+      go (Answers.remainder_stuck n x y) e d = cc
+      go (Answers.remainder_short n x y z) e d = cc
       go (remainder_written {g = g} n x y z) e d =
           let l : length g ≡ length r = cc in
           let k : g ≡ r = sym (take-append_seam g (lib.ListN.drop (length g) G.out)) ∙ ap (λ i. take i (Answers.front g G.out)) l ∙ d in

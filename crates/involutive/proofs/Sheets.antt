@@ -1,17 +1,16 @@
 -- What the theory of tables says of sheets, over lists of terms: what reducing leaves, and on a closed sheet what is irreducible,
 -- what leads, and what the copies generate.
-use Rattle.std.proofs.Common.{◌≡◌, ℕ, suc, ◌-◌, Bool, List, [], ◌∷◌, ◌++◌, map, length, get_or, sym, ap, ◌∙◌, subst, subst₂, arith}
+use Rattle.std.proofs.Common.{◌≡◌, ℕ, ◌-◌, Bool, List, [], ◌∷◌, ◌++◌, map, length, sym, ap, ◌∙◌, subst, subst₂, arith}
+use mathlib.Core.List.Memᴰ
 use mathlib.Core.List.{Memᴰ}
 use lib.ListN.{length-map}
 use Rattle.polynomial.specs.declared.term.Term.{Term}
-use Rattle.field.specs.Field.{FieldMeaning, FieldLaws}
 use Rattle.monomial.specs.Monomial.{Divides}
-use Rattle.monomial.specs.Order.{Compare}
-use Rattle.monomial.specs.Division.{Split, Within, Involutive}
+use Rattle.monomial.specs.Division.{Within, Involutive}
 use Rattle.involutive.specs.Value
 use Rattle.polynomial.specs.Polynomial.{Poly, Over, exponents, Written, leading}
 use Rattle.involutive.specs.Ideal.{Member, SameIdeal}
-use Rattle.involutive.specs.Reduction.{Table, row, leaders, left, Irreducible, Reduces}
+use Rattle.involutive.specs.Reduction.{Table, leaders, left, Irreducible, Reduces}
 use Rattle.involutive.specs.Sheet.{Setting, State, Pair, Closed, Lawful}
 use Rattle.polynomial.specs.Check.{most_terms}
 use Rattle.involutive.specs.Answers.{ReducesTo, Minimal, Selection, Copies, copies}
@@ -21,7 +20,7 @@ use Rattle.involutive.proofs.Monomials
 use Rattle.involutive.proofs.Monomials.{Mono}
 use Rattle.involutive.proofs.Typing
 use Rattle.involutive.proofs.Membership
-use Rattle.involutive.proofs.Typing.{Ground, ground_of, base}
+use Rattle.involutive.proofs.Typing.{ground_of, words, base}
 use Rattle.involutive.proofs.Ideals
 use Rattle.involutive.proofs.Copying.{CopyOf, Beside, beside, copy_from, copy_to}
 use Rattle.involutive.specs.Sound.{Sound}
@@ -33,36 +32,12 @@ use Rattle.involutive.proofs.WrittenLists
 use Rattle.involutive.proofs.Lists
 
 module _ (S : Setting) (W : Lawful S) where
-  abbrev ground : Ground
-  ground = ground_of S W
-
-  abbrev F : FieldMeaning
-  F = S.field
-
-  abbrev L : FieldLaws F
-  L = W.field
-
-  abbrev N : ℕ
-  N = S.variables
-
-  abbrev O : Compare
-  O = S.order
-
-  abbrev Typed : Type 0
-  Typed = Typing.Typed ground
-
-  abbrev raw : Typed → Poly
-  raw = Typing.raw ground
-
-  abbrev B : Base
-  B = base L N
+  open S use {field as F, variables as N, order as O, division as D}
+  open words (ground_of S W) use {ground, B, Typed, raw, lead, Sorted, nth}
 
   -- a sheet with these rows
   abbrev st : Table → (ℕ → ℕ → Bool) → State
   st R m = record { rows = R; marks = m }
-
-  abbrev D : Split
-  D = S.division
 
   -- what a closed sheet's marks say
   closing : (T : List Typed) (m : ℕ → ℕ → Bool) (G : Good S W T) → Sound S (st (map raw T) m) → Closed S (st (map raw T) m) → Closes S W T G
@@ -85,7 +60,7 @@ module _ (S : Setting) (W : Lawful S) where
   pub rows_over : {s : State} → Sound S s → Ideals.Overs F N s.rows
   rows_over I f h = (I.each f h).acceptable.written.over
 
-  sorted : (p : Typed) {f : Poly} → raw p ≡ f → Written F O N f → Tables.Sorted S W p
+  sorted : (p : Typed) {f : Poly} → raw p ≡ f → Written F O N f → Sorted p
   sorted p e w = WrittenLists.written_sorted ground p (subst (Written F O N) (sym e) w)
 
   -- what reducing takes off lies in the ideal of the rows
@@ -100,7 +75,7 @@ module _ (S : Setting) (W : Lawful S) where
   lead_divisor s I c t f w = on_closed s I c (λ R. Member F N R (t ∷ f) → (k : ℕ) × Involutive D (leaders R) k (exponents t)) (λ T G d m. go T G d (Typing.typed ground (t ∷ f) w.over) m)
     where
       go : (T : List Typed) (G : Good S W T) → Closes S W T G → (p : Typed) × (raw p ≡ t ∷ f) → Member F N (map raw T) (t ∷ f) → (k : ℕ) × Involutive D (leaders (map raw T)) k (exponents t)
-      go T G d ([], e) m = let z : ◌≡◌ {A = ℕ} 0 (suc _) = ap length e in absurd (omega arith)
+      go T G d ([], e) m = cc
       go T G d (u ∷ p, e) m =
           let r = ClosedTables.lead_divisor S W T G d u p (sorted (u ∷ p) e w) (Membership.member_span ground T (u ∷ p) (subst (Member F N (map raw T)) (sym e) m)) in
           (r.0, subst (Involutive D (leaders (map raw T)) r.0) (ap leading e) r.1)
@@ -134,7 +109,7 @@ module _ (S : Setting) (W : Lawful S) where
 
     tidied_written : Written F O N f
     tidied_written =
-        let s : Tables.Sorted S W tidied.poly = subst (Tables.Sorted S W) (sym tidied.monic.is) tidied.monic.sorted in
+        let s : Sorted tidied.poly = subst Sorted (sym tidied.monic.is) tidied.monic.sorted in
         subst (Written F O N) tidied.is (WrittenLists.sorted_written ground tidied.poly s)
 
   -- a copy is written, and a member
@@ -151,14 +126,11 @@ module _ (S : Setting) (W : Lawful S) where
         member = subst (Member F N (map raw T)) t.is (Membership.span_member ground T t.poly (tidied_span T G s.marks k u d));
       }) w c
 
-  lowest_minimal : (T : List Typed) (m : ℕ → ℕ → Bool) (k : ℕ) (w : Within k (length T)) → ((j : (k : ℕ) × Within k (length T)) (a : Mono N) → Typing.lead ground (get_or T (k - 1) []) ≡ Monomials.mul (Typing.lead ground (get_or T (j.0 - 1) [])) a → j.0 ≡ k) → Minimal S (st (map raw T) m) k
+  lowest_minimal : (T : List Typed) (m : ℕ → ℕ → Bool) (k : ℕ) (w : Within k (length T)) → ((j : (k : ℕ) × Within k (length T)) (a : Mono N) → lead (nth T k) ≡ Monomials.mul (lead (nth T j.0)) a → j.0 ≡ k) → Minimal S (st (map raw T) m) k
   lowest_minimal T m k w h = record {
     within = rw (length-map T raw) w;
-    undivided = λ j v d. h (j, rw (length-map T raw) at v) (Monomials.over (Typing.lead ground (get_or T (k - 1) [])) (Typing.lead ground (get_or T (j - 1) []))) (sym (Monomials.mul_over (Typing.lead ground (get_or T (j - 1) [])) (Typing.lead ground (get_or T (k - 1) [])) (subst₂ Divides (led j) (led k) d)));
+    undivided = λ j v d. h (j, rw (length-map T raw) at v) (Monomials.over (lead (nth T k)) (lead (nth T j))) (sym (Monomials.mul_over (lead (nth T j)) (lead (nth T k)) (subst₂ Divides (Typing.row_lead ground T (j - 1)) (Typing.row_lead ground T (k - 1)) d)));
   }
-    where
-      led : (k : ℕ) → leading (row (map raw T) k) ≡ (Typing.lead ground (get_or T (k - 1) [])).0
-      led k = ap leading (Typing.raw_row ground T (k - 1)) ∙ Typing.raw_lead ground (get_or T (k - 1) [])
 
   -- the copies generate the ideal of the rows
   pub copies_ideal : (s : State) → Sound S s → Closed S s → (ks : List ℕ) (fs : List Poly) → Selection S s ks → Copies S s ks (copies fs) → SameIdeal F N s.rows fs
@@ -172,10 +144,10 @@ module _ (S : Setting) (W : Lawful S) where
           (ClosedTables.regenerate_all S W T G d P.0 (λ k low.
           let a = copy_to S (st (map raw T) m) b k.0 ((sel.minimal k.0).1 (lowest_minimal T m k.0 k.1 low)) in
           let t = tidied T G m k.0 k.1 a.copy in
-          let r = Lists.map_member raw P.0 (subst (Memᴰ a.f) (sym P.1) a.stands) in
+          let r = Memᴰ.of_map raw P.0 (subst (Memᴰ a.f) (sym P.1) a.stands) in
           record { poly = t.poly; inside = subst (Span B P.0) (Typing.same_value ground r.0 t.poly (r.2 ∙ sym t.is)) (Algebra.span_gen B r.1); monic = t.monic; leads = t.leads; span = t.span }))
           (λ h k.
-          let a = copy_from S (st (map raw T) m) b (raw h) (subst (Memᴰ (raw h)) P.1 (Lists.member_map raw P.0 k)) in
+          let a = copy_from S (st (map raw T) m) b (raw h) (subst (Memᴰ (raw h)) P.1 (Memᴰ.map raw k)) in
           subst (Span B T) (Typing.same_value ground (tidied T G m a.k (within a.k a.stands) a.copy).poly h (tidied T G m a.k (within a.k a.stands) a.copy).is) (tidied_span T G m a.k (within a.k a.stands) a.copy)))
         where
           b : Beside S (st (map raw T) m) ks fs

@@ -1,14 +1,14 @@
 -- The invariant of a log: rows are written and monic, their leading monomials differ, and every marked pair reduces to nothing.
-use Rattle.std.proofs.Common.{◌≡◌, ℕ, zero, suc, ◌-◌, ◌<◌, ◌≤◌, false, ◌&&◌, eqb, ◌⊎◌, List, [], ◌∷◌, ◌++◌, map, length, get_or, drop, None, sym, refl, ap, ◌∙◌, subst, subst₂, inl, inr, ⊎_elim, arith, length-append}
+use Rattle.std.proofs.Common.{◌≡◌, ℕ, zero, suc, ◌-◌, ◌<◌, ◌≤◌, false, ◌&&◌, eqb, ◌⊎◌, List, [], ◌∷◌, ◌++◌, length, get_or, drop, None, sym, refl, ap, ◌∙◌, subst, subst₂, inl, inr, ⊎_elim, arith, length-append}
 use mathlib.Core.List.Memᴰ
 use mathlib.Core.List.{Memᴰ}
 use lib.ListN.{length-map}
 use Rattle.std.proofs.lemmas.Bool.{and_parts, or_cases, eqb-true, cases_eq, both_ways}
-use Rattle.std.proofs.lemmas.List.{get_or_append_left, get_or_push}
+use Rattle.std.proofs.lemmas.List.{get_or-map, get_or_append_left, get_or_push}
 use Rattle.polynomial.specs.declared.term.Term.{Term}
-use Rattle.field.specs.Field.{FieldMeaning, FieldLaws}
 use Rattle.monomial.specs.Monomial.{Wide, Bounded, variable, one, quotient}
-use Rattle.monomial.specs.Order.{Compare, Under}
+use Rattle.monomial.specs.Places.{at_quotient}
+use Rattle.monomial.specs.Order.{Under}
 use Rattle.monomial.specs.Division.{Within, Distinct, member}
 use Rattle.polynomial.specs.Polynomial.{Poly, Over, term, exponents, Written, Falling, none, single, more, leading}
 use Rattle.involutive.specs.Value.{scaled}
@@ -21,20 +21,13 @@ use Rattle.polynomial.proofs.Checking.{acceptable_from}
 use Rattle.involutive.proofs.Monomials
 use Rattle.involutive.proofs.Typing
 use Rattle.involutive.proofs.WrittenLists
-use Rattle.involutive.proofs.Typing.{Ground, ground_of, Code}
+use Rattle.involutive.proofs.Typing.{ground_of, words, Code}
 use Rattle.involutive.proofs.Values
 use Rattle.involutive.specs.Sound.{Row, Sound, SoundnessKept}
 use Rattle.involutive.proofs.Lists
 
-pub lead_at : (T : Table) (i : ℕ) → i < length T → get_or (map leading T) i [] ≡ leading (get_or T i [])
-lead_at [] i h = absurd (omega arith)
-lead_at (p ∷ T) zero h = refl
-lead_at (p ∷ T) (suc i) h = lead_at T i (omega arith)
-
 quotient_self : (m : List ℕ) (i : ℕ) → get_or (quotient m m) i 0 ≡ 0
-quotient_self [] i = refl
-quotient_self (e ∷ m) zero = omega arith
-quotient_self (e ∷ m) (suc i) = quotient_self m i
+quotient_self m i = omega (arith, at_quotient m m refl i)
 
 place : (T : Table) (p : Poly) (j : ℕ) → Within j (length (T ++ (p ∷ []))) → (Within j (length T) × (row (T ++ (p ∷ [])) j ≡ row T j)) ⊎ ((j ≡ suc (length T)) × (row (T ++ (p ∷ [])) j ≡ p))
 place T p j w = ⊎_elim (λ e. inr (e, get_or_push T p [] (j - 1) (omega arith))) (λ e. let v : Within j (length T) = (w.0, omega (arith, n)) in inl (v, get_or_append_left T (p ∷ []) [] (j - 1) (omega arith))) (cases_eq j (suc (length T)))
@@ -43,33 +36,22 @@ place T p j w = ⊎_elim (λ e. inr (e, get_or_push T p [] (j - 1) (omega arith)
     n = length-append T (p ∷ []) ∙ omega arith
 
 module _ (S : Setting) (W : Lawful S) where
-  abbrev ground : Ground
-  ground = ground_of S W
-
-  abbrev pub F : FieldMeaning
-  F = S.field
-
-  abbrev pub L : FieldLaws F
-  L = W.field
-
-  abbrev pub N : ℕ
-  N = S.variables
-
-  abbrev pub O : Compare
-  O = S.order
+  open S use {field as F, variables as N, order as O}
+  open W use {field as L}
+  open words (ground_of S W) use {ground}
 
   -- actions keep a polynomial written, and what is left is irreducible
   pub reduces_written : {T : Table} {room : ℕ} {h : Poly} {o : Outcome} → Reduces F O S.division N T room h o → Written F O N h → (g : Poly) → o ≡ left g → Written F O N g × Irreducible F O S.division N T g
   reduces_written {T} (done {h = h} i) w g d = let e : h ≡ g = cc in (subst (Written F O N) e w, subst (Irreducible F O S.division N T) e i)
-  reduces_written (wide r f) w g d = let z : ◌≡◌ {A = ℕ} 0 1 = cc in absurd (omega arith)
-  reduces_written (long r f x l) w g d = let z : ◌≡◌ {A = ℕ} 0 1 = cc in absurd (omega arith)
+  reduces_written (wide r f) w g d = cc
+  reduces_written (long r f x l) w g d = cc
   reduces_written (acts r f x l rest) w g d = reduces_written rest x.written g d
 
   -- nor do they outgrow the limits
   pub reduces_small : {T : Table} {room : ℕ} {h : Poly} {o : Outcome} → Reduces F O S.division N T room h o → Fits h → length h ≤ room → (g : Poly) → o ≡ left g → Fits g × (length g ≤ room)
   reduces_small {T} {room} (done {h = h} i) f l g d = let e : h ≡ g = cc in (subst Fits e f, subst (λ g. length g ≤ room) e l)
-  reduces_small (wide r w) f l g d = let z : ◌≡◌ {A = ℕ} 0 1 = cc in absurd (omega arith)
-  reduces_small (long r w x m) f l g d = let z : ◌≡◌ {A = ℕ} 0 1 = cc in absurd (omega arith)
+  reduces_small (wide r w) f l g d = cc
+  reduces_small (long r w x m) f l g d = cc
   reduces_small {T} (acts {h = h} {g = g'} {t = t} {k = k} r w x m rest) f l g d = reduces_small rest (WrittenLists.fits_difference ground S.division T h (multiple F O S.division N T t k) g' x f w) m g d
 
   -- what is left of an acceptable polynomial is acceptable
@@ -100,7 +82,7 @@ module _ (S : Setting) (W : Lawful S) where
   })
     where
       a : member (leaders T) k ≡ exponents t
-      a = lead_at T (k - 1) (omega arith) ∙ e
+      a = get_or-map leading T (k - 1) [] [] (omega arith) ∙ e
 
   -- divided by its leading coefficient it is a row, and its leading monomial stays
   pub monic_leads : (t : Term) (g : Poly) → Acceptable F O N (t ∷ g) → leading (scaled F (F.inv t.coefficient) one (t ∷ g)) ≡ exponents t
@@ -245,7 +227,7 @@ module _ (S : Setting) (W : Lawful S) where
       inside w = rw (length-map s.rows leading) at w
 
       led : (k : ℕ) → Within k (length s.rows) → member (leaders s.rows) k ≡ leading (row s.rows k)
-      led k w = lead_at s.rows (k - 1) (omega arith)
+      led k w = get_or-map leading s.rows (k - 1) [] [] (omega arith)
 
 pub soundness_kept : SoundnessKept
 soundness_kept S W calls s gs a = sound S W a

@@ -1,14 +1,13 @@
 -- A table of monic rows with distinct leading monomials, and what reducing by it leaves.
-use Rattle.std.proofs.Common.{◌≡◌, ℕ, zero, suc, ◌-◌, ◌<◌, Bool, true, ◌⊎◌, List, [], ◌∷◌, ◌++◌, map, length, get_or, take, drop, Some, sym, refl, ap, ◌∙◌, subst, inl, inr, ⊎_elim, arith}
+use Rattle.std.proofs.Common.{◌≡◌, ℕ, ◌-◌, ◌<◌, Bool, true, ◌⊎◌, List, [], ◌∷◌, ◌++◌, map, length, take, drop, Some, sym, refl, ap, ◌∙◌, subst, inl, inr, ⊎_elim, arith}
 use mathlib.Core.HLevel.{Σ_prop_path, ×_prop}
 use mathlib.Core.List.Memᴰ
 use mathlib.Core.List.{Memᴰ}
 use mathlib.Core.WellFounded.InvImage
 use native.Mathlib.Bridge.{le_prop}
 use lib.ListN.{length-map}
-use Rattle.field.specs.Field.{FieldMeaning, FieldLaws}
-use Rattle.monomial.specs.Order.{Compare, OrderLaws}
-use Rattle.monomial.specs.Division.{Split, DivisionLaws, Within, Distinct, Involutive, member}
+use Rattle.std.proofs.lemmas.List.{get_or-map}
+use Rattle.monomial.specs.Division.{Within, Distinct, Involutive, member}
 use Rattle.monomial.specs.Monomial.{width, exponent, variable, quotient, Divides}
 use Rattle.involutive.specs.Value
 use Rattle.polynomial.specs.Polynomial
@@ -22,49 +21,14 @@ use Rattle.involutive.proofs.Sums
 use Rattle.involutive.proofs.Monomials
 use Rattle.involutive.proofs.Monomials.{Mono}
 use Rattle.involutive.proofs.Typing
-use Rattle.involutive.proofs.Typing.{Ground, ground_of, Code, base, Beneath}
+use Rattle.involutive.proofs.Typing.{ground_of, words, Code, base, Beneath}
 use Rattle.involutive.proofs.WrittenLists
 use Rattle.involutive.proofs.Lists
 
 module _ (S : Setting) (W : Lawful S) where
-  abbrev ground : Ground
-  ground = ground_of S W
-
-  abbrev F : FieldMeaning
-  F = S.field
-
-  abbrev L : FieldLaws F
-  L = W.field
-
-  abbrev N : ℕ
-  N = S.variables
-
-  abbrev O : Compare
-  O = S.order
-
-  abbrev Q : OrderLaws O
-  Q = W.order
-
-  abbrev D : Split
-  D = S.division
-
-  abbrev E : DivisionLaws D
-  E = W.division
-
-  abbrev pub B : Base
-  B = base L N
-
-  abbrev pub Typed : Type 0
-  Typed = Typing.Typed ground
-
-  abbrev pub raw : Typed → Poly
-  raw = Typing.raw ground
-
-  abbrev pub lead : Typed → Mono N
-  lead = Typing.lead ground
-
-  abbrev pub Sorted : Typed → Type 0
-  Sorted = Algebra.Sorted B (Beneath N O)
+  open S use {field as F, variables as N, order as O, division as D}
+  open W use {order as Q, division as E}
+  open words (ground_of S W) use {ground, B, Typed, raw, lead, minus, Sorted, nth}
 
   pub record Monic (p : Typed) : Type 0 where
     pub head : Code F × Mono N
@@ -82,9 +46,6 @@ module _ (S : Setting) (W : Lawful S) where
   pub monic_top : {p : Typed} (u : Mono N) → Monic p → Beneath N O (lead p) u → Algebra.at B p u ≡ B.𝟘
   monic_top {p} u m = rw m.is (λ h. Algebra.at_below B (Beneath N O) (WrittenLists.line ground) (Algebra.more_below h (Algebra.below_up B (Beneath N O) (WrittenLists.line ground) h (sorted_parts m.sorted).0)))
 
-  abbrev pub nth : List Typed → ℕ → Typed
-  nth T k = get_or T (k - 1) []
-
   pub record Good (T : List Typed) : Type 0 where
     pub monic : (p : Typed) → Memᴰ p T → Monic p
     pub once : (j k : ℕ) → Within j (length T) → Within k (length T) → lead (nth T j) ≡ lead (nth T k) → j ≡ k
@@ -96,17 +57,9 @@ module _ (S : Setting) (W : Lawful S) where
   -- the rows of a sound sheet are such a table
   pub typed_good : (T : List Typed) (m : ℕ → ℕ → Bool) → Sound S (record { rows = map raw T; marks = m }) → Good T
   typed_good T m I = record {
-    monic = λ p h. typed_monic p (I.each (raw p) (Lists.member_map raw T h));
-    once = λ j k w v e. I.once j k (rw (length-map T raw) w) (rw (length-map T raw) v) (led j ∙ ap (λ x. x.0) e ∙ sym (led k));
+    monic = λ p h. typed_monic p (I.each (raw p) (Memᴰ.map raw h));
+    once = λ j k w v e. I.once j k (rw (length-map T raw) w) (rw (length-map T raw) v) (Typing.row_lead ground T (j - 1) ∙ ap (λ x. x.0) e ∙ sym (Typing.row_lead ground T (k - 1)));
   }
-    where
-      led : (k : ℕ) → Polynomial.leading (row (map raw T) k) ≡ (lead (get_or T (k - 1) [])).0
-      led k = ap Polynomial.leading (Typing.raw_row ground T (k - 1)) ∙ Typing.raw_lead ground (get_or T (k - 1) [])
-
-  lead_at : (T : List Typed) (i : ℕ) → i < length T → get_or (map Polynomial.leading (map raw T)) i [] ≡ (lead (get_or T i [])).0
-  lead_at [] i h = absurd (omega arith)
-  lead_at (p ∷ T) zero h = Typing.raw_lead ground p
-  lead_at (p ∷ T) (suc i) h = lead_at T i (omega arith)
 
   module _ (T : List Typed) (G : Good T) where
     abbrev pub U : List (List ℕ)
@@ -116,7 +69,7 @@ module _ (S : Setting) (W : Lawful S) where
     size = simp length-map
 
     pub member_lead : (k : ℕ) → Within k (length T) → member U k ≡ (lead (nth T k)).0
-    member_lead k w = lead_at T (k - 1) (omega arith)
+    member_lead k w = get_or-map Polynomial.leading (map raw T) (k - 1) [] [] (omega (arith, length-map T raw)) ∙ Typing.row_lead ground T (k - 1)
 
     pub in_u : {k : ℕ} → Within k (length T) → Within k (length U)
     in_u w = rw size w
@@ -206,7 +159,7 @@ module _ (S : Setting) (W : Lawful S) where
       pub poly : Typed
       pub is : raw poly ≡ g
       pub sorted : Sorted poly
-      pub sum : Sums.Sum B chart (Sums.Upto B chart H) (Algebra.◌⊕◌ B (Algebra.at B p) (Algebra.⊖ B (Algebra.at B poly)))
+      pub sum : Sums.Sum B chart (Sums.Upto B chart H) (minus p poly)
       pub irreducible : Irreducible F O D N (map raw T) g
 
     Bounded : Mono N → Typed → Type 0
@@ -223,8 +176,8 @@ module _ (S : Setting) (W : Lawful S) where
     reduced (done i) H p e s b g d =
         let f : raw p ≡ g = cc in
         record { poly = p; is = f; sorted = s; sum = Sums.nil (Algebra.⊕-⊖ B (Algebra.at B p)); irreducible = subst (Irreducible F O D N (map raw T)) (sym e ∙ f) i }
-    reduced (wide r f) H p e s b g d = let z : ◌≡◌ {A = ℕ} 0 1 = cc in absurd (omega arith)
-    reduced (long r f x l) H p e s b g d = let z : ◌≡◌ {A = ℕ} 0 1 = cc in absurd (omega arith)
+    reduced (wide r f) H p e s b g d = cc
+    reduced (long r f x l) H p e s b g d = cc
     reduced (acts {h = h} {g = g'} {t = t} {k = k} r f x l more) H p e s b g d =
         let u = Typing.raw_term ground p {t = t} (rw e r.stands) in
         let q = Typing.typed ground g' x.written.over in
@@ -239,14 +192,14 @@ module _ (S : Setting) (W : Lawful S) where
           is = z.is;
           sorted = z.sorted;
           irreducible = z.irreducible;
-          sum = Sums.add u.0.0 v.k v.a v.mul n z.sum (Algebra.minus_chain B (Algebra.at B p) (Algebra.at B q.0) (Algebra.at B z.poly) ∙ ap (λ y. Algebra.◌⊕◌ B y (Algebra.◌⊕◌ B (Algebra.at B q.0) (Algebra.⊖ B (Algebra.at B z.poly)))) (Algebra.minus_minus B (Algebra.at B p) (Algebra.at B q.0) (Algebra.shift B u.0.0 v.a (Algebra.at B (nth T k))) w));
+          sum = Sums.add {v = minus p z.poly} {w = minus q.0 z.poly} u.0.0 v.k v.a v.mul n z.sum (Algebra.minus_through B (Algebra.at B p) (Algebra.at B q.0) (Algebra.shift B u.0.0 v.a (Algebra.at B (nth T k))) (Algebra.at B z.poly) w);
         }
 
     -- what is left of terms below h is below h
     reduces_nil : {room : ℕ} {h : Poly} {o : Outcome} → Reduces F O D N (map raw T) room h o → h ≡ [] → (g : Poly) → o ≡ left g → g ≡ []
     reduces_nil (done i) e g d = cc
-    reduces_nil (wide r f) e g d = let z : ◌≡◌ {A = ℕ} 0 1 = cc in absurd (omega arith)
-    reduces_nil (long r f x l) e g d = let z : ◌≡◌ {A = ℕ} 0 1 = cc in absurd (omega arith)
+    reduces_nil (wide r f) e g d = cc
+    reduces_nil (long r f x l) e g d = cc
     reduces_nil (acts {t = t} r f x l more) e g d = absurd (Memᴰ.not-nil (subst (Memᴰ t) e r.stands))
 
     below_all : (h : Mono N) (q : Typed) → ((t : Code F × Mono N) → Memᴰ t q → Beneath N O t.1 h) → Algebra.Below B (Beneath N O) h q
@@ -263,7 +216,7 @@ module _ (S : Setting) (W : Lawful S) where
       pub is : raw poly ≡ g
       pub sorted : Sorted poly
       pub irreducible : Irreducible F O D N (map raw T) g
-      pub span : Span B T (Typing.minus ground p poly)
+      pub span : Span B T (minus p poly)
       pub below : (h : Mono N) → Algebra.Below B (Beneath N O) h p → Algebra.Below B (Beneath N O) h poly
 
     first_below : {h : Mono N} {u : Code F × Mono N} {p : Typed} → Algebra.Below B (Beneath N O) h (u ∷ p) → Beneath N O u.1 h
@@ -295,7 +248,7 @@ module _ (S : Setting) (W : Lawful S) where
       pub is : raw poly ≡ f
       pub monic : Monic poly
       pub leads : lead poly ≡ lead (nth T k.0)
-      pub span : Span B T (Algebra.◌⊕◌ B (Algebra.at B (nth T k.0)) (Algebra.⊖ B (Algebra.at B poly)))
+      pub span : Span B T (minus (nth T k.0) poly)
 
     pub tidied : {room : ℕ} (k : R) {g : Poly} → Reduces F O D N (map raw T) room (drop 1 (row (map raw T) k.0)) (left g) → Tidied k (take 1 (row (map raw T) k.0) ++ g)
     unfolding Algebra.at
@@ -309,7 +262,7 @@ module _ (S : Setting) (W : Lawful S) where
           is = ap {B = Poly} (λ x. term m.head.0.0 m.head.1.0 ∷ x) z.is ∙ ap (λ x. take 1 x ++ g) (sym e);
           monic = record { head = m.head; tail = z.poly; is = refl; one = m.one; sorted = Algebra.more_sorted parts.2 (z.below m.head.1 parts.0) z.sorted };
           leads = ap lead (sym m.is);
-          span = subst (λ x. Span B T (Algebra.◌⊕◌ B (Algebra.at B x) (Algebra.⊖ B (Algebra.at B (m.head ∷ z.poly))))) (sym m.is) (subst (Span B T) (sym (Algebra.minus_front B (Algebra.single B m.head.0 m.head.1) (Algebra.at B m.tail) (Algebra.at B z.poly))) z.span);
+          span = subst (λ x. Span B T (minus x (m.head ∷ z.poly))) (sym m.is) (subst (Span B T) (sym (Algebra.minus_front B (Algebra.single B m.head.0 m.head.1) (Algebra.at B m.tail) (Algebra.at B z.poly))) z.span);
         }
 
     below_shift : (x m : Mono N) {f : Typed} → Algebra.Below B (Beneath N O) m f → Algebra.Below B (Beneath N O) (Monomials.mul x m) (Algebra.scaled B B.𝟙 x f)

@@ -1,9 +1,10 @@
 -- From the lists of terms in specs/ to polynomials over the codes below q, and back.
-use Rattle.std.proofs.Common.{◌≡◌, ℕ, zero, suc, ◌-◌, ◌<◌, List, [], ◌∷◌, ◌++◌, map, length, get_or, sym, refl, ap, ◌∙◌, ⊎_elim, arith}
+use Rattle.std.proofs.Common.{◌≡◌, ℕ, zero, suc, ◌-◌, ◌<◌, List, [], ◌∷◌, ◌++◌, map, get_or, sym, refl, ap, ◌∙◌, ⊎_elim, arith}
 use mathlib.Core.Path.{fun_ext}
 use mathlib.Core.HLevel.{Σ_prop_path}
+use lib.ListN.{get_or-map}
 use mathlib.Core.List.Memᴰ
-use mathlib.Core.List.{Memᴰ}
+use mathlib.Core.List.{Memᴰ, map-append}
 use native.Mathlib.Bridge.{le_prop}
 use Rattle.std.proofs.lemmas.Bool.{cond-true, cond-false}
 use Rattle.polynomial.specs.declared.term.Term.{Term}
@@ -17,6 +18,7 @@ use Rattle.monomial.specs.Order.{Compare, OrderLaws, Under}
 use Rattle.monomial.specs.Division.{Split}
 use Rattle.involutive.specs.Reduction.{multiple, Difference}
 use Rattle.involutive.specs.Sheet.{Setting, Lawful}
+use Rattle.involutive.proofs.Lists
 use Rattle.involutive.proofs.Algebra
 use Rattle.involutive.proofs.Algebra.{Base}
 use Rattle.involutive.proofs.Values
@@ -79,20 +81,7 @@ abbrev pub ground_of : (S : Setting) → Lawful S → Ground
 ground_of S W = record { field = S.field; laws = W.field; order = S.order; order_laws = W.order; variables = S.variables }
 
 module _ (ground : Ground) where
-  abbrev F : FieldMeaning
-  F = ground.field
-
-  abbrev L : FieldLaws F
-  L = ground.laws
-
-  abbrev N : ℕ
-  N = ground.variables
-
-  abbrev O : Compare
-  O = ground.order
-
-  abbrev Q : OrderLaws O
-  Q = ground.order_laws
+  open ground use {field as F, laws as L, variables as N, order as O, order_laws as Q}
 
   abbrev pub B : Base
   B = base L N
@@ -100,24 +89,21 @@ module _ (ground : Ground) where
   abbrev pub Typed : Type 0
   Typed = List (Code F × Mono N)
 
+  -- a term without its proofs
+  abbrev pub bare : Code F × Mono N → Term
+  bare t = term t.0.0 t.1.0
+
   abbrev pub raw : Typed → Poly
-  raw [] = []
-  raw (t ∷ f) = term t.0.0 t.1.0 ∷ raw f
+  raw = map bare
 
   pub raw-++ : (f g : Typed) → raw (f ++ g) ≡ raw f ++ raw g
-  raw-++ [] g = refl
-  raw-++ (t ∷ f) g = ap {B = Poly} (λ r. term t.0.0 t.1.0 ∷ r) (raw-++ f g)
+  raw-++ = map-append bare
 
   pub typed : (f : Poly) → Over F N f → (p : Typed) × (raw p ≡ f)
-  typed [] o = ([], refl)
-  typed (t ∷ f) o =
-      let r = typed f (λ s h. o s (Memᴰ.tail h)) in
-      let h = o t (Memᴰ.head refl) in
-      (((t.coefficient, h.0), (exponents t, h.1)) ∷ r.0, ap {B = Poly} (λ r. t ∷ r) r.1)
+  typed f o = Lists.lifted bare f (λ t h. let w = o t h in (((t.coefficient, w.0), (exponents t, w.1)), refl))
 
   pub raw_over : (p : Typed) → Over F N (raw p)
-  raw_over [] t h = elim h [ ]
-  raw_over (s ∷ p) t h = ⊎_elim (λ e. (rw e s.0.1, rw e s.1.1)) (λ k. raw_over p t k) (Memᴰ.cases_cons h)
+  raw_over p t h = let u = Memᴰ.of_map bare p h in rw (← u.2) (u.0.0.1, u.0.1.1)
 
   pub raw_scaled : (c : Code F) (a : Mono N) (f : Typed) → raw (Algebra.scaled B c a f) ≡ Value.scaled F c.0 a.0 (raw f)
   unfolding Algebra.scaled
@@ -143,10 +129,6 @@ module _ (ground : Ground) where
       go (yes e) h = cond-true _ _ _ (Monomials.same_yes t.1 m e) ∙ cc (h, ap (λ c. c.0) (Algebra.single_at B t.0 t.1 m e))
       go (no n) h = cond-false _ _ _ (Monomials.same_no t.1 m n) ∙ cc (h, ap (λ c. c.0) (Algebra.single_off B t.0 t.1 m n), L.zero_neutral (Algebra.at B f m).0 (Algebra.at B f m).1)
 
-  pub raw_neg : (v : Algebra.V B) (m : Mono N) → (Algebra.⊖ B v m).0 ≡ F.neg (v m).0
-  unfolding Algebra.⊖
-  raw_neg v m = refl
-
   -- lists of terms stand for the same polynomial where their values are the same
   pub from_equal : (f g : Typed) → Equal F (raw f) (raw g) → Algebra.at B f ≡ Algebra.at B g
   from_equal f g e = fun_ext (λ m. code_eq (sym (raw_at f m) ∙ e m.0 ∙ raw_at g m))
@@ -163,23 +145,17 @@ module _ (ground : Ground) where
   pub nothing : (p : Typed) → raw p ≡ [] → Algebra.at B p ≡ Algebra.𝟎 B
   unfolding Algebra.at
   nothing [] e = refl
-  nothing (t ∷ p) e = let z : suc (length (raw p)) ≡ 0 = ap length e in absurd (omega arith)
+  nothing (t ∷ p) e = cc
 
   -- the value of a difference
   abbrev pub minus : Typed → Typed → Algebra.V B
   minus p q = Algebra.◌⊕◌ B (Algebra.at B p) (Algebra.⊖ B (Algebra.at B q))
 
   pub typeds : (fs : List Poly) → ((a : Poly) → Memᴰ a fs → Over F N a) → (xs : List Typed) × (map raw xs ≡ fs)
-  typeds [] o = ([], refl)
-  typeds (f ∷ fs) o =
-      let p = typed f (o f (Memᴰ.head refl)) in
-      let r = typeds fs (λ a h. o a (Memᴰ.tail h)) in
-      (p.0 ∷ r.0, cc (p.1, r.1))
+  typeds fs o = Lists.lifted raw fs (λ f h. typed f (o f h))
 
   pub raw_row : (T : List Typed) (i : ℕ) → get_or (map raw T) i [] ≡ raw (get_or T i [])
-  raw_row [] i = refl
-  raw_row (p ∷ T) zero = refl
-  raw_row (p ∷ T) (suc i) = raw_row T i
+  raw_row T i = get_or-map raw T i []
 
   abbrev pub lead : Typed → Mono N
   lead [] = Monomials.unit
@@ -188,6 +164,9 @@ module _ (ground : Ground) where
   pub raw_lead : (p : Typed) → Polynomial.leading (raw p) ≡ (lead p).0
   raw_lead [] = refl
   raw_lead (t ∷ f) = refl
+
+  pub row_lead : (T : List Typed) (i : ℕ) → Polynomial.leading (get_or (map raw T) i []) ≡ (lead (get_or T i [])).0
+  row_lead T i = ap Polynomial.leading (raw_row T i) ∙ raw_lead (get_or T i [])
 
   pub raw_minus : (f g : Typed) → raw (f ++ Algebra.negated B g) ≡ Value.minus F (raw f) (raw g)
   raw_minus f g = raw-++ f (Algebra.negated B g) ∙ ap (λ x. raw f ++ x) (raw_negated g)
@@ -208,8 +187,7 @@ module _ (ground : Ground) where
   at_minus f g = Algebra.at-++ B f (Algebra.negated B g) ∙ ap (Algebra.◌⊕◌ B (Algebra.at B f)) (Algebra.at_negated B g)
 
   pub raw_term : (p : Typed) {t : Term} → Memᴰ t (raw p) → (u : Code F × Mono N) × Memᴰ u p × (t ≡ term u.0.0 u.1.0)
-  raw_term [] h = elim h [ ]
-  raw_term (u ∷ p) h = ⊎_elim (λ e. (u, Memᴰ.head refl, e)) (λ k. let r = raw_term p k in (r.0, Memᴰ.tail r.1, r.2)) (Memᴰ.cases_cons h)
+  raw_term p h = let u = Memᴰ.of_map bare p h in (u.0, u.1, sym u.2)
 
   -- a row divided by its leading coefficient
   pub record Inverse (c : Code F) : Type 0 where
@@ -242,3 +220,26 @@ module _ (ground : Ground) where
   unfolding Algebra.scaled
   nonzero_scaled c a [] h n t m = elim m [ ]
   nonzero_scaled c a (s ∷ p) h n t m = ⊎_elim (λ e. rw e (product_pos c s.0 h (n _ (Memᴰ.head refl)))) (λ k. nonzero_scaled c a p h (λ x k. n x (Memᴰ.tail k)) t k) (Memᴰ.cases_cons m)
+
+-- what a section over a ground calls the things above; it opens those that it needs
+pub record Words : Type 1 where
+  pub ground : Ground
+  pub B : Base
+  pub Typed : Type 0
+  pub raw : Typed → Poly
+  pub lead : Typed → Mono ground.variables
+  pub minus : Typed → Typed → Algebra.V B
+  pub Sorted : Typed → Type 0
+  pub nth : List Typed → ℕ → Typed
+
+abbrev pub words : Ground → Words
+words ground = record {
+  ground = ground;
+  B = B ground;
+  Typed = Typed ground;
+  raw = raw ground;
+  lead = lead ground;
+  minus = minus ground;
+  Sorted = Algebra.Sorted (B ground) (Beneath ground.variables ground.order);
+  nth = λ T k. get_or T (k - 1) [];
+}

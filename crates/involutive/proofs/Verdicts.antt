@@ -1,11 +1,12 @@
 -- The verdict of a closed sheet: 1 is a member exactly when a row's leading monomial is 1.
-use Rattle.std.proofs.Common.{◌≡◌, ℕ, suc, ◌-◌, ◌≤◌, ◌↔◌, List, [], ◌∷◌, length, get_or, refl, subst, ⊎_elim, arith}
+use Rattle.std.proofs.Common.{◌≡◌, ℕ, suc, ◌-◌, ◌≤◌, ◌↔◌, List, [], ◌∷◌, length, get_or, refl, subst, arith}
+use mathlib.Core.List.Memᴰ
 use mathlib.Core.List.{Memᴰ}
 use lib.ListN.{length-map}
+use Rattle.std.proofs.lemmas.List.{get_or-map}
 use Rattle.polynomial.specs.declared.term.Term.{Term}
-use Rattle.field.specs.Field.{FieldMeaning, FieldLaws}
 use Rattle.monomial.specs.Monomial.{In, Wide, one, Divides}
-use Rattle.monomial.specs.Order.{Compare, Under}
+use Rattle.monomial.specs.Order.{Under}
 use Rattle.monomial.specs.Division.{Within}
 use Rattle.polynomial.specs.Polynomial.{Poly, term, exponents, Written, Falling, single, more, leading}
 use Rattle.involutive.specs.Value.{unit}
@@ -16,7 +17,7 @@ use Rattle.involutive.specs.Answers.{Judges, verdict_answer, impossible, possibl
 use Rattle.monomial.specs.Places.{agree_all, beyond, low}
 use Rattle.involutive.specs.Complete.{UnitRow}
 use Rattle.involutive.proofs.Monomials
-use Rattle.involutive.proofs.Typing.{Ground, ground_of}
+use Rattle.involutive.proofs.Typing.{ground_of, words}
 use Rattle.involutive.proofs.Ideals
 use Rattle.involutive.proofs.Soundness
 use Rattle.involutive.specs.Sound.{Row, Sound}
@@ -25,25 +26,14 @@ use Rattle.involutive.proofs.WrittenLists
 use Rattle.involutive.proofs.Lists
 
 module _ (S : Setting) (W : Lawful S) where
-  abbrev ground : Ground
-  ground = ground_of S W
-
-  abbrev F : FieldMeaning
-  F = S.field
-
-  abbrev O : Compare
-  O = S.order
-
-  abbrev N : ℕ
-  N = S.variables
-
-  abbrev L : FieldLaws F
-  L = W.field
+  open S use {field as F, variables as N, order as O}
+  open W use {field as L}
+  open words (ground_of S W) use {ground}
 
   pub unit_written : Written F O N unit
   unit_written = record {
-    over = λ t h. ⊎_elim (λ e. rw e (L.differ, Monomials.in_one)) (λ k. elim k [ ]) (mathlib.Core.List.Memᴰ.cases_cons h);
-    nonzero = λ t h. ⊎_elim (λ e. rw e (omega arith)) (λ k. elim k [ ]) (mathlib.Core.List.Memᴰ.cases_cons h);
+    over = λ t h. rw (Memᴰ.eq_of_singleton h) (L.differ, Monomials.in_one);
+    nonzero = λ t h. rw (Memᴰ.eq_of_singleton h) (omega arith);
     falling = single;
   }
 
@@ -68,7 +58,7 @@ module _ (S : Setting) (W : Lawful S) where
     where
       go : (h : Term) (t : Poly) → h.coefficient ≡ 1 → exponents h ≡ one → Written F O N (h ∷ t) → h ∷ t ≡ unit
       go h [] c d w = λ i. record { coefficient = c i; monomial = record { exponents = d i } } ∷ []
-      go h (s ∷ t) c d w = absurd (least (exponents s) (w.over s (mathlib.Core.List.Memᴰ.tail (mathlib.Core.List.Memᴰ.head refl))).1.wide (subst (Under O (exponents s)) d (fall w.falling)))
+      go h (s ∷ t) c d w = absurd (least (exponents s) (w.over s (Memᴰ.tail (Memᴰ.head refl))).1.wide (subst (Under O (exponents s)) d (fall w.falling)))
         where
           fall : {h s : Term} {t : Poly} → Falling O (h ∷ s ∷ t) → Under O (exponents s) (exponents h)
           fall (more x y) = x
@@ -78,7 +68,7 @@ module _ (S : Setting) (W : Lawful S) where
     λ m.
         let r = Sheets.lead_divisor S W s I c (term 1 one) [] unit_written m in
         let w : Within r.0 (length s.rows) = rw (length-map s.rows leading) at r.1.within in
-        record { k = r.0; within = w; leads = divides_one (leading (row s.rows r.0)) (Soundness.row_wide S W I r.0) (subst (λ x. Divides x one) (Soundness.lead_at s.rows (r.0 - 1) (omega arith)) r.1.divides) },
+        record { k = r.0; within = w; leads = divides_one (leading (row s.rows r.0)) (Soundness.row_wide S W I r.0) (subst (λ x. Divides x one) (get_or-map leading s.rows (r.0 - 1) [] [] (omega arith)) r.1.divides) },
     λ u.
         let h : Memᴰ (row s.rows u.k) s.rows = Lists.entry_member [] s.rows (u.k - 1) (omega (arith, u.within.0, u.within.1)) in
         subst (Member F N s.rows) (monic_unit (row s.rows u.k) (I.each _ h) u.leads) (Ideals.member_generator ground s.rows (λ p k. (I.each p k).acceptable.written.over) (row s.rows u.k) h),

@@ -3,7 +3,6 @@ use Rattle.std.proofs.Common.{◌≡◌, ℕ, zero, suc, ◌<◌, ◌⊎◌, Lis
 use mathlib.Core.List.Memᴰ
 use mathlib.Core.List.{Memᴰ}
 use Rattle.polynomial.specs.declared.term.Term.{Term}
-use Rattle.field.specs.Field.{FieldMeaning, FieldLaws}
 use Rattle.monomial.specs.Monomial.{In, Bounded, Wide}
 use Rattle.polynomial.specs.Check.{Fits, largest_exponent}
 use Rattle.involutive.specs.Value
@@ -19,40 +18,19 @@ use Rattle.involutive.proofs.Values
 use Rattle.involutive.proofs.Monomials
 use Rattle.involutive.proofs.Monomials.{Mono}
 use Rattle.involutive.proofs.Typing
-use Rattle.involutive.proofs.Typing.{Ground, Code, Beneath, Nonzero, base}
+use Rattle.involutive.proofs.Typing.{Ground, words, Code, Beneath, Nonzero, base}
 use Rattle.involutive.proofs.Ideals
 
 -- no two monomials stand below one another
 pub under_asym : {O : Compare} → OrderLaws O → (u m : List ℕ) → Wide u → Wide m → Under O u m → Under O m u → ⊥
-under_asym Q u m a b h k = let z : Less ≡ Same = sym (Q.transitive u m u a b a h k) ∙ (Q.equal u u a a).1 refl in let y : ◌≡◌ {A = ℕ} 0 1 = cc in omega arith
+under_asym Q u m a b h k = let z : Less ≡ Same = sym (Q.transitive u m u a b a h k) ∙ (Q.equal u u a a).1 refl in cc
 
 module _ (ground : Ground) where
-  abbrev F : FieldMeaning
-  F = ground.field
-
-  abbrev L : FieldLaws F
-  L = ground.laws
-
-  abbrev N : ℕ
-  N = ground.variables
-
-  abbrev O : Compare
-  O = ground.order
-
-  abbrev Q : OrderLaws O
-  Q = ground.order_laws
-
-  abbrev B : Base
-  B = base L N
-
-  abbrev Typed : Type 0
-  Typed = Typing.Typed ground
-
-  abbrev raw : Typed → Poly
-  raw = Typing.raw ground
+  open ground use {field as F, laws as L, variables as N, order as O, order_laws as Q}
+  open words ground use {B, Typed, raw}
 
   pub under_irr : (u : Mono N) → Beneath N O u u → ⊥
-  under_irr u h = let z : Less ≡ Same = sym h ∙ (Q.equal u.0 u.0 u.1.wide u.1.wide).1 refl in let y : ◌≡◌ {A = ℕ} 0 1 = cc in omega arith
+  under_irr u h = let z : Less ≡ Same = sym h ∙ (Q.equal u.0 u.0 u.1.wide u.1.wide).1 refl in cc
 
   pub under_tri : (u m : Mono N) → Beneath N O u m ⊎ ((u ≡ m) ⊎ Beneath N O m u)
   under_tri u m = go (O u.0 m.0) refl
