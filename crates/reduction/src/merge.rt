@@ -4,10 +4,10 @@
 // of them once, for subtracting.
 ghost use Rattle.std.specs.Prelude.{◌≡◌, ℕ, ◌<◌, ◌≤◌, length, map, MatchOption, MatchResult};
 ghost use Rattle.polynomial.specs.Polynomial.{Poly, term as joined, exponents as exponents_of};
-ghost use Rattle.polynomial.specs.Check.{most_terms};
 ghost use Rattle.reduction.specs.Merging.{image as imaged, code_sum, capped_product, small_product, all_small, Sums, Placed};
 
 use crate::buffer::{Buffer, NoRoom};
+use crate::room::Room;
 use field::Field;
 use monomial::Monomial;
 use monomial::order::Order;
@@ -82,17 +82,16 @@ fn join<F: Field>(field: &F, term: &Term, other: &Term) -> Option<Term>
     }
 }
 
-// Adds the factor times a row to the terms, where the sum has at most `room` terms.
+// Adds the factor times a row to the terms, where there is room for the sum.
 pub(crate) fn add_multiple<F: Field, O: Order>(
     ring: &Ring<F, O>,
     terms: &[Term],
     row: &[Term],
     factor: &Term,
-    room: usize,
+    room: Room,
     out: &mut Buffer,
 ) -> Result<(), NoRoom>
-    requires { room ≤ most_terms }
-    ensures { MatchResult result (λ _. Sums (F.Field.meaning ring.now.field) (O.Order.meaning ring.now.order) terms.now (map (imaged (F.Field.meaning ring.now.field) factor.now.coefficient (exponents_of factor.now)) row.now) out.new.terms.items × (length out.new.terms.items ≤ room)) (λ _. (g : Poly) × Sums (F.Field.meaning ring.now.field) (O.Order.meaning ring.now.order) terms.now (map (imaged (F.Field.meaning ring.now.field) factor.now.coefficient (exponents_of factor.now)) row.now) g × (room < length g)) }
+    ensures { MatchResult result (λ _. Sums (F.Field.meaning ring.now.field) (O.Order.meaning ring.now.order) terms.now (map (imaged (F.Field.meaning ring.now.field) factor.now.coefficient (exponents_of factor.now)) row.now) out.new.terms.items × (length out.new.terms.items ≤ room.terms)) (λ _. (g : Poly) × Sums (F.Field.meaning ring.now.field) (O.Order.meaning ring.now.order) terms.now (map (imaged (F.Field.meaning ring.now.field) factor.now.coefficient (exponents_of factor.now)) row.now) g × (room.terms < length g)) }
 {
     out.clear();
     let mut rest = terms;

@@ -18,7 +18,7 @@ returns-in_err-extend-in-Ok g c =
     let e = c.in_err-extend-in-Ok.ensures in
     failed _ c.from_residual.result c.from_residual.ensures.0
     (turned_long F O (image F c.args.factor.now.coefficient (exponents c.args.factor.now)) c.args.terms.now c.args.row.now rest c.loop-term.term-index (vec_items c.loop-term.out.terms) c.loop-term.invariant.1 s (term 0 []) (omega arith) c.image-other.ensures
-    (take k rest) (drop k rest) (λ f. s ∷ f) (copied F O s rest k place.1 (omega (arith, place.0))) c.args.room e.0)
+    (take k rest) (drop k rest) (λ f. s ∷ f) (copied F O s rest k place.1 (omega (arith, place.0))) c.args.room.terms e.0)
 
 pub returns-in_err-extend-in-Err : goal.returns-in_err-extend-in-Err
 returns-in_err-extend-in-Err g c =
@@ -31,7 +31,7 @@ returns-in_err-extend-in-Err g c =
     let e = c.in_err-extend-in-Err.ensures in
     failed _ c.from_residual-in_err-extend-in-Err.result c.from_residual-in_err-extend-in-Err.ensures.0
     (turned_long F O (image F c.args.factor.now.coefficient (exponents c.args.factor.now)) c.args.terms.now c.args.row.now rest c.loop-term.term-index (vec_items c.loop-term.out.terms) c.loop-term.invariant.1 s (term 0 []) (omega arith) c.image-other.ensures
-    (take k rest) (drop k rest) (λ f. s ∷ f) (copied F O s rest k place.1 place.0) c.args.room e.0)
+    (take k rest) (drop k rest) (λ f. s ∷ f) (copied F O s rest k place.1 place.0) c.args.room.terms e.0)
 
 pub returns-in_err-push-in-Err : goal.returns-in_err-push-in-Err
 returns-in_err-push-in-Err g c =
@@ -45,7 +45,7 @@ returns-in_err-push-in-Err g c =
     let d = c.in_err-push-in-Err.ensures in
     failed _ c.from_residual-in_err-push-in-Err.result c.from_residual-in_err-push-in-Err.ensures.0
     (turned_long F O (image F c.args.factor.now.coefficient (exponents c.args.factor.now)) c.args.terms.now c.args.row.now rest c.loop-term.term-index (vec_items c.loop-term.out.terms) c.loop-term.invariant.1 s (term 0 []) (omega arith) c.image-other.ensures
-    (take k rest ++ s ∷ []) (drop k rest) (λ f. f) (met_alone F O s rest k place.1 place.0 place.2) c.args.room (omega (arith, d.0, ap length e.1, length-append (vec_items c.loop-term.out.terms) (take k rest), length-append (take k rest) (s ∷ []))))
+    (take k rest ++ s ∷ []) (drop k rest) (λ f. f) (met_alone F O s rest k place.1 place.0 place.2) c.args.room.terms (omega (arith, d.0, ap length e.1, length-append (vec_items c.loop-term.out.terms) (take k rest), length-append (take k rest) (s ∷ []))))
 
 pub returns-in_err-push-in-Ok : goal.returns-in_err-push-in-Ok
 returns-in_err-push-in-Ok g c =
@@ -59,13 +59,13 @@ returns-in_err-push-in-Ok g c =
     let d = c.in_err-push-in-Ok.ensures in
     failed _ c.from_residual-in_err-push-in-Ok.result c.from_residual-in_err-push-in-Ok.ensures.0
     (turned_long F O (image F c.args.factor.now.coefficient (exponents c.args.factor.now)) c.args.terms.now c.args.row.now rest c.loop-term.term-index (vec_items c.loop-term.out.terms) c.loop-term.invariant.1 s (term 0 []) (omega arith) c.image-other.ensures
-    _ _ (λ f. f) (met_both F O s rest k place.1 place.0 place.2 (term 0 []) c.in-Some.ensures.0) c.args.room (omega (arith, d.0, ap length e.1, length-append (vec_items c.loop-term.out.terms) (take k rest), length-append (take k rest) (term (code_sum F (get_or rest k (term 0 [])).coefficient s.coefficient) (exponents (get_or rest k (term 0 []))) ∷ []))))
+    _ _ (λ f. f) (met_both F O s rest k place.1 place.0 place.2 (term 0 []) c.in-Some.ensures.0) c.args.room.terms (omega (arith, d.0, ap length e.1, length-append (vec_items c.loop-term.out.terms) (take k rest), length-append (take k rest) (term (code_sum F (get_or rest k (term 0 [])).coefficient s.coefficient) (exponents (get_or rest k (term 0 []))) ∷ []))))
 
 pub returns : goal.returns
 returns g c =
     let F = g.F.Field.meaning c.args.ring.now.field in
     closed F (g.O.Order.meaning c.args.ring.now.order) (image F c.args.factor.now.coefficient (exponents c.args.factor.now)) c.args.terms.now c.args.row.now c.loop-term.rest.now c.loop-term.term-index (vec_items c.loop-term.out.terms) c.loop-term.invariant.1
-    c.loop-term-test.false c.args.room c.extend-2.result (vec_items c.extend-2.new.self.terms) c.extend-2.ensures
+    c.loop-term-test.false c.args.room.terms c.extend-2.result (vec_items c.extend-2.new.self.terms) c.extend-2.ensures
 
 pub loop-term-preserved : goal.loop-term-preserved
 loop-term-preserved g c =
