@@ -5,9 +5,9 @@ use mathlib.Core.List.Memᴰ
 use mathlib.Core.List.{Memᴰ}
 use lib.ListN.{length-map}
 use Rattle.std.proofs.lemmas.List.{get_or-map}
-use Rattle.field.specs.Field.{FieldMeaning, FieldLaws}
+use Rattle.field.specs.Field.{FieldMeaning}
 use Rattle.monomial.specs.Monomial.{In, Bounded, same, times, quotient, exponent}
-use Rattle.monomial.specs.Order.{Compare, OrderLaws, Under}
+use Rattle.monomial.specs.Order.{Compare, Under}
 use Rattle.monomial.specs.Division.{Split, Involutive, member}
 use Rattle.monomial.specs.Places.{low}
 use Rattle.polynomial.specs.declared.term.Term.{Term}
@@ -39,20 +39,7 @@ tops_each O u [] h = tt
 tops_each O u (s ∷ f) h = h s (Memᴰ.head refl)
 
 module _ (G : Ground) where
-  abbrev F : FieldMeaning
-  F = G.field
-
-  abbrev L : FieldLaws F
-  L = G.laws
-
-  abbrev O : Compare
-  O = G.order
-
-  abbrev Q : OrderLaws O
-  Q = G.order_laws
-
-  abbrev n : ℕ
-  n = G.variables
+  open G use {field as F, laws as L, order as O, order_laws as Q, variables as n}
 
   abbrev Good : Term → Type 0
   Good = Adding.Good F L O Q n

@@ -1,5 +1,5 @@
 -- A turn of adding up, over plain lists.
-use Rattle.std.proofs.Common.{◌≡◌, ℕ, ◌+◌, ◌<◌, ◌≤◌, ◌∷◌, ◌++◌, map, length, get_or, drop, Ok, Err, Result, MatchResult, sym, refl, ap, ◌∙◌, subst, append_assoc, arith, length-append}
+use Rattle.std.proofs.Common.{◌≡◌, ℕ, ◌+◌, ◌<◌, ◌≤◌, [], ◌∷◌, ◌++◌, map, length, get_or, drop, Ok, Err, Result, MatchResult, sym, refl, ap, ◌∙◌, subst, append_assoc, arith, length-append}
 use Rattle.std.specs.Result.{IsErr}
 use Rattle.std.proofs.lemmas.Bool.{false≢true}
 use Rattle.std.proofs.lemmas.List.{drop_more, drop_all}
@@ -7,7 +7,7 @@ use Rattle.field.specs.Field.{FieldMeaning}
 use Rattle.monomial.specs.Order.{Compare}
 use Rattle.polynomial.specs.declared.term.Term.{Term}
 use Rattle.polynomial.specs.Polynomial.{Poly}
-use Rattle.reduction.specs.Merging.{Sums}
+use Rattle.reduction.specs.Merging.{Sums, Meets}
 use Rattle.reduction.proofs.Adding.{summed, lefts}
 
 -- what became of `out`, to which `part` was to be added
@@ -23,13 +23,22 @@ pub extend_all : {E : Type 0} (out part : Poly) (room : ℕ) (res : Result (Unit
 extend_all out part room (Ok u) out' l e = e.1
 extend_all out part room (Err x) out' l e = absurd (let k = e.0 in omega arith)
 
-pub failed : {A E Q : Type 0} (P : Type 0) (res : Result A E) → IsErr res → Q → MatchResult res (λ _. P) (λ _. Q)
+pub failed : {A E Q : Type 0} (P : A → Type 0) (res : Result A E) → IsErr res → Q → MatchResult res P (λ _. Q)
 failed P (Ok a) h q = absurd (false≢true h)
 failed P (Err e) h q = q
 
 -- two parts written one after the other
 pub behind : (out a b out' out'' : Poly) → out' ≡ out ++ a → out'' ≡ out' ++ b → out'' ≡ out ++ (a ++ b)
 behind out a b out' out'' e d = d ∙ ap (λ x. x ++ b) e ∙ append_assoc out a b
+
+module _ (F : FieldMeaning) (O : Compare) where
+  -- where there is no room for what a turn writes of the sum of h and s ∷ f, there is none for the sum
+  pub too_long : {h after : Poly} {s : Term} (part : Poly) (more : Poly → Poly) → ((f g : Poly) → Sums F O after (more f) g → Sums F O h (s ∷ f) (part ++ g)) → (out room : ℕ) → room < out + length part → (f : Poly) → (g : Poly) × Sums F O h (s ∷ f) g × (room < out + length g)
+  too_long {after = after} part more turns out room l f = let z = summed F O after (more f) in (part ++ z.0, turns f z.0 z.1, omega (arith, length-append part z.0))
+
+  -- the same where the room ends in the middle of it, before its last term
+  pub too_long_by_one : {h after : Poly} {s : Term} (part : Poly) (t : Term) → Meets F O s h (part ++ t ∷ []) after → (out out' : Poly) (room : ℕ) → out' ≡ out ++ part → room ≤ length out' → (f : Poly) → (g : Poly) × Sums F O h (s ∷ f) g × (room < length out + length g)
+  too_long_by_one part t meets out out' room e l = too_long (part ++ t ∷ []) (λ f. f) meets (length out) room (omega (arith, ap length e, length-append out part, length-append part (t ∷ [])))
 
 -- what is left of h is `rest`, and of the row what stands from term j on; whatever they come to, behind what is written, is the whole
 module _ (F : FieldMeaning) (O : Compare) (I : Term → Term) (h row rest : Poly) (j : ℕ) (out : Poly) (inv : (r : Poly) → Sums F O rest (map I (drop j row)) r → Sums F O h (map I row) (out ++ r)) where
@@ -47,18 +56,16 @@ module _ (F : FieldMeaning) (O : Compare) (I : Term → Term) (h row rest : Poly
   closed l room (Ok u) out' e = (subst Whole (sym e.1) (ended l), omega (arith, e.0, ap length e.1, length-append out rest))
   closed l room (Err x) out' e = (out ++ rest, ended l, let k = e.0 in omega (arith, length-append out rest))
 
-  -- a turn at term j, which writes `part` and leaves `after`
-  module _ (s d : Term) (inside : j < length row) (is : s ≡ I (get_or row j d)) (part after : Poly) (more : Poly → Poly) (turns : (f g : Poly) → Sums F O after (more f) g → Sums F O rest (s ∷ f) (part ++ g)) where
+  -- a turn at term j of the row, whose image is s
+  module _ (s d : Term) (inside : j < length row) (is : s ≡ I (get_or row j d)) where
     abbrev tail : Poly
     tail = map I (drop (j + 1) row)
 
-    front : map I (drop j row) ≡ s ∷ tail
-    front = ap (map I) (drop_more row j d inside) ∙ ap (λ x. x ∷ tail) (sym is)
+    whole : (g : Poly) → Sums F O rest (s ∷ tail) g → Whole (out ++ g)
+    whole g = let e : map I (drop j row) ≡ s ∷ tail = ap (map I) (drop_more row j d inside) ∙ ap (λ x. x ∷ tail) (sym is) in subst (λ x. Sums F O rest x g → Whole (out ++ g)) e (inv g)
 
-    pub turned : (out' : Poly) → out' ≡ out ++ part → (r : Poly) → Sums F O after (more tail) r → Whole (out' ++ r)
-    turned out' e r m = subst Whole (sym (ap (λ x. x ++ r) e ∙ append_assoc out part r)) (inv (part ++ r) (subst (λ x. Sums F O rest x (part ++ r)) (sym front) (turns tail r m)))
+    pub turned : (part after out' : Poly) → out' ≡ out ++ part → Meets F O s rest part after → (r : Poly) → Sums F O after tail r → Whole (out' ++ r)
+    turned part after out' e meets r m = subst Whole (sym (ap (λ x. x ++ r) e ∙ append_assoc out part r)) (whole (part ++ r) (meets tail r m))
 
-    pub turned_long : (room : ℕ) → room < length out + length part → Longer room
-    turned_long room l =
-        let z = summed F O after (more tail) in
-        ((out ++ part) ++ z.0, turned (out ++ part) refl z.0 z.1, omega (arith, length-append (out ++ part) z.0, length-append out part))
+    pub turned_long : (room : ℕ) → ((f : Poly) → (g : Poly) × Sums F O rest (s ∷ f) g × (room < length out + length g)) → Longer room
+    turned_long room long = let z = long tail in (out ++ z.0, whole z.0 z.1, let l = z.2 in omega (arith, length-append out z.0))

@@ -25,6 +25,10 @@ use Rattle.reduction.proofs.Terms.{Each, each_head, each_tail, each_append, each
 abbrev pub monomials : ℕ
 monomials = 4750104241
 
+-- what polynomials in n variables are made of, over a field and an order with their laws
+abbrev pub over : {F : FieldMeaning} {O : Compare} → FieldLaws F → OrderLaws O → ℕ → Ground
+over {F} {O} L Q n = record { field = F; laws = L; order = O; order_laws = Q; variables = n }
+
 abbrev not_above : Ordering → Bool
 not_above Less = true
 not_above Equal = true
@@ -81,20 +85,7 @@ module _ (O : Compare) (Q : OrderLaws O) where
       omega (arith, k, ahead_falls x (d ++ f) (d ++ f) (s x (Memᴰ.head refl)) (each_head {P = λ t. Wide (exponents t)} w) (each_tail {P = λ t. Wide (exponents t)} w) (falling_head (d ++ f) h))
 
 module _ (G : Ground) (D : Split) (T : Table) (room : ℕ) where
-  abbrev F : FieldMeaning
-  F = G.field
-
-  abbrev L : FieldLaws F
-  L = G.laws
-
-  abbrev O : Compare
-  O = G.order
-
-  abbrev Q : OrderLaws O
-  Q = G.order_laws
-
-  abbrev n : ℕ
-  n = G.variables
+  open G use {field as F, order as O, order_laws as Q, variables as n}
 
   -- after `turn` turns from h on: no term of `fine` has a divisor, and whatever fine and rest together come to, h comes to
   pub record Stands (h fine rest : Poly) (turn : ℕ) : Type 0 where
@@ -107,6 +98,10 @@ module _ (G : Ground) (D : Split) (T : Table) (room : ℕ) where
 
   pub begun : (h : Poly) → Written F O n h → Fits h → length h ≤ room → Stands h [] h 0
   begun h w s l = record { written = w; small = s; short = l; clean = λ t m. elim m [ ]; comes = λ r. r; turns = omega (arith, ahead_most O h) }
+
+  -- the same of another name for what is left
+  pub seen : {h fine rest : Poly} {turn : ℕ} (xs : Poly) → xs ≡ rest → Stands h fine rest turn → Stands h fine xs turn
+  seen {h} {fine} {rest} {turn} xs e = subst (λ x. Stands h fine x turn) (sym e)
 
   wides : {f : Poly} → Over F n f → Wides f
   wides o t m = (o t m).1.wide

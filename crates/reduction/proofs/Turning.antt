@@ -1,16 +1,14 @@
 -- From a sound table and what the search finds to the turns of reducing.
-use Rattle.std.proofs.Common.{◌≡◌, ℕ, zero, suc, ◌+◌, ◌-◌, ◌<◌, ◌≤◌, min, List, [], ◌∷◌, ◌++◌, length, get_or, take, drop, Some, None, Ok, Err, Result, sym, refl, ap, ◌∙◌, subst, append-nil, add-one, arith, length-append, take-append-drop, length-take}
+use Rattle.std.proofs.Common.{◌≡◌, ℕ, zero, suc, ◌+◌, ◌-◌, ◌<◌, ◌≤◌, List, [], ◌∷◌, ◌++◌, length, get_or, take, drop, Some, None, Ok, Err, Result, sym, refl, ap, ◌∙◌, subst, append-nil, add-one, arith, length-append, take-append-drop, length-take}
 use mathlib.Core.List.Memᴰ
 use mathlib.Core.List.{Memᴰ}
 use lib.ListN.{length-map}
 use Rattle.std.proofs.lemmas.List.{get_or-map, get_or-take, drop_more, take_all}
-use Rattle.field.specs.Field.{FieldMeaning}
 use Rattle.monomial.specs.Monomial.{Wide, In, quotient}
-use Rattle.monomial.specs.Order.{Compare}
 use Rattle.monomial.specs.Division.{Split, Within, Involutive, member}
 use Rattle.polynomial.specs.declared.term.Term.{Term}
 use Rattle.polynomial.specs.Polynomial.{Poly, term, exponents, Written, leading, leading_coefficient}
-use Rattle.polynomial.specs.Check.{Fits, most_terms}
+use Rattle.polynomial.specs.Check.{Fits}
 use Rattle.involutive.specs.Value.{scaled}
 use Rattle.involutive.specs.Reduction.{Table, row, leaders, Reduces, left, refused, refuse}
 use Rattle.involutive.proofs.Typing.{Ground}
@@ -44,14 +42,7 @@ first_of [] e = absurd (let z : ◌≡◌ {A = ℕ} 0 1 = e in omega arith)
 first_of (l ∷ f) e = (l, refl)
 
 module _ (G : Ground) (D : Split) (rows : List Row) (sound : SoundTable (setting G.field G.order D G.variables) rows) (room : ℕ) where
-  abbrev F : FieldMeaning
-  F = G.field
-
-  abbrev O : Compare
-  O = G.order
-
-  abbrev n : ℕ
-  n = G.variables
+  open G use {field as F, order as O, variables as n}
 
   abbrev T : Table
   T = table_of rows
@@ -105,24 +96,24 @@ module _ (G : Ground) (D : Split) (rows : List Row) (sound : SoundTable (setting
   wides : {h fine rest : Poly} {turn : ℕ} → At h fine rest turn → Each (λ t. Wide (exponents t)) rest
   wides {h} {fine} {rest} st t m = (st.written.over t (Memᴰ.append_right fine m)).1.wide
 
+  -- there is room for the terms that are done
+  front_fits : {h fine rest : Poly} {turn : ℕ} → At h fine rest turn → (part : Poly) → length part ≤ length rest → (most : ℕ) → most ≡ room → length fine + length part ≤ most
+  front_fits {h} {fine} {rest} st part l most p = let b = st.short in omega (arith, length-append fine rest)
+
   -- no term is left that a row divides
-  pub finished : {h fine rest : Poly} {turn : ℕ} (fine' : Poly) → At h fine rest turn → Finds rows rest None → fine' ≡ fine ++ rest → Reduces F O D n T room h (left fine')
-  finished {h} {fine} {rest} {turn} fine' st none e =
+  pub finished : {h fine rest : Poly} {turn : ℕ} → At h fine rest turn → Finds rows rest None → (most : ℕ) → most ≡ room → (res : Result (Unit {0}) NoRoom) (fine' : Poly) → Extended fine rest most res fine' → Reduces F O D n T room h (left fine')
+  finished {h} {fine} {rest} {turn} st none most is res fine' extended =
+      let e = extend_all fine rest most res fine' (front_fits st rest (omega arith) most is) extended in
       let k = subst (Each (Clean G D T)) (take_all (length rest) rest (omega arith)) (clean_upto rest (length rest) (omega arith) (wides st) none) in
       subst (λ x. Reduces F O D n T room h (left x)) (sym e) (ended G D T room (moved G D T room rest [] (subst (λ x. At h fine x turn) (sym (append-nil rest)) st) k))
 
-  -- there is room for the terms that are done
-  pub front_fits : {h fine rest : Poly} {turn : ℕ} → At h fine rest turn → (part : Poly) → length part ≤ length rest → (most : ℕ) → room ≤ most → length fine + length part ≤ most
-  front_fits {h} {fine} {rest} st part l most p = let b = st.short in omega (arith, length-append fine rest)
-
-  -- A turn at term i and row k. The room that is left is what the code computes: it takes the least of `room` and 40, and
-  -- hands on what the terms that are done leave of it.
-  module _ (h fine rest : Poly) (turn : ℕ) (st : At h fine rest turn) (i k : ℕ) (found : Finds rows rest (Some (i, k))) (r : Row) (is_r : r ≡ get_or rows k r) (most : ℕ) (enough : room ≤ most) (res : Result (Unit {0}) NoRoom) (fine' : Poly) (extended : Extended fine (take i rest) most res fine') where
+  -- A turn at term i and row k, where the code has room for `most` terms and hands on what the terms that are done leave of it.
+  module _ {h fine rest : Poly} {turn : ℕ} (st : At h fine rest turn) (i k : ℕ) (found : Finds rows rest (Some (i, k))) (r : Row) (is_r : r ≡ get_or rows k r) (most : ℕ) (is_most : most ≡ room) (res : Result (Unit {0}) NoRoom) (fine' : Poly) (extended : Extended fine (take i rest) most res fine') where
     abbrev t : Term
     t = get_or rest i (term 0 [])
 
     front : fine' ≡ fine ++ take i rest
-    front = extend_all fine (take i rest) most res fine' (front_fits st (take i rest) (omega (arith, length-take i rest)) most enough) extended
+    front = extend_all fine (take i rest) most res fine' (front_fits st (take i rest) (omega (arith, length-take i rest)) most is_most) extended
 
     abbrev at_row : SoundRow (setting F O D n) T k r
     at_row = sound k r found.2.inside is_r
@@ -184,10 +175,7 @@ module _ (G : Ground) (D : Split) (rows : List Row) (sound : SoundTable (setting
         (here.written.nonzero t t_there) (here.written.over t t_there).0
         (subst (In n) (sym shift_is) (Acting.shift_in G action))
 
-    module _ (small : room ≤ most_terms) (is_most : most ≡ min room most_terms) (len : ℕ) (is_len : len ≡ length fine') (behind : Poly) (is_behind : behind ≡ drop (i + 1) rest) where
-      abbrev free : ℕ
-      free = min (most - len) most_terms
-
+    module _ (free : ℕ) (is_free : free ≡ most - length fine') (behind : Poly) (is_behind : behind ≡ drop (i + 1) rest) where
       exact : length fine' + free ≡ room
       exact = let w = here.short in omega (arith, length-append fine' (t ∷ drop (i + 1) rest))
 

@@ -1,6 +1,6 @@
 -- What the code of a subtraction computes on every value, sound or not, one term after another.
 -- Only contracts of private functions use these words; no public contract does.
-use Rattle.std.specs.Prelude.{◌≡◌, ℕ, ◌+◌, ◌<◌, ◌≤◌, min, Bool, true, ◌&&◌, List, [], ◌∷◌, length, Ok, Err, Result, nat_le, slice_index_or}
+use Rattle.std.specs.Prelude.{◌≡◌, ℕ, ◌+◌, ◌<◌, ◌≤◌, min, Bool, true, ◌&&◌, List, [], ◌∷◌, ◌++◌, length, Ok, Err, Result, nat_le, slice_index_or}
 use Rattle.std.specs.declared.cmp.Ordering.TheVariants.{Less, Equal, Greater}
 use Rattle.std.specs.List.{list_all}
 use Rattle.std.specs.Option.{unwrap_or}
@@ -59,3 +59,7 @@ module _ (F : FieldMeaning) (O : Compare) where
     right_first : {t s : Term} {h f g : Poly} → O (exponents t) (exponents s) ≡ Less → Sums (t ∷ h) f g → Sums (t ∷ h) (s ∷ f) (s ∷ g)
     together : {t s : Term} {h f g : Poly} → O (exponents t) (exponents s) ≡ Equal → 0 < code_sum F t.coefficient s.coefficient → Sums h f g → Sums (t ∷ h) (s ∷ f) (term (code_sum F t.coefficient s.coefficient) (exponents t) ∷ g)
     cancelled : {t s : Term} {h f g : Poly} → O (exponents t) (exponents s) ≡ Equal → code_sum F t.coefficient s.coefficient ≡ 0 → Sums h f g → Sums (t ∷ h) (s ∷ f) g
+
+-- when s is added to h, `part` of the sum is settled and `rest` of h is left
+abbrev pub Meets : FieldMeaning → Compare → Term → Poly → Poly → Poly → Type 0
+Meets F O s h part rest = (f g : Poly) → Sums F O rest f g → Sums F O h (s ∷ f) (part ++ g)

@@ -2,6 +2,7 @@
 ghost use Rattle.std.specs.Prelude.{◌≡◌, ℕ, ◌+◌, ◌<◌, ◌≤◌, List, [], ◌∷◌, ◌++◌, length, IfOk, vec_len, vec_capacity, MatchResult};
 ghost use Rattle.polynomial.specs.Check.{most_terms};
 
+use crate::room::Room;
 use polynomial::check::MOST_TERMS;
 use polynomial::term::Term;
 use std::alloc::{AllocError, Global};
@@ -46,27 +47,22 @@ impl Buffer {
         Ok(())
     }
 
-    // One term more, where fewer than `most` are there; else nothing changes.
-    pub(crate) fn push(&mut self, term: Term, most: usize) -> Result<(), NoRoom>
-        requires { most ≤ most_terms }
-        ensures { MatchResult result (λ _. (length self.old.terms.items < most) × (self.new.terms.items ≡ self.old.terms.items ++ term ∷ [])) (λ _. (most ≤ length self.old.terms.items) × (self.new.terms.items ≡ self.old.terms.items)) }
+    // One term more, where there is room; else nothing changes.
+    pub(crate) fn push(&mut self, term: Term, room: Room) -> Result<(), NoRoom>
+        ensures { MatchResult result (λ _. (length self.old.terms.items < room.terms) × (self.new.terms.items ≡ self.old.terms.items ++ term ∷ [])) (λ _. (room.terms ≤ length self.old.terms.items) × (self.new.terms.items ≡ self.old.terms.items)) }
     {
-        if self.terms.len() >= most {
+        if self.terms.len() >= room.terms {
             return Err(NoRoom);
         }
         self.terms.push_reserved(term);
         Ok(())
     }
 
-    // All these terms more, where then at most `most` are there; else nothing changes.
-    pub(crate) fn extend(&mut self, more: &[Term], most: usize) -> Result<(), NoRoom>
-        requires { most ≤ most_terms }
-        ensures { MatchResult result (λ _. (length self.old.terms.items + length more.now ≤ most) × (self.new.terms.items ≡ self.old.terms.items ++ more.now)) (λ _. (most < length self.old.terms.items + length more.now) × (self.new.terms.items ≡ self.old.terms.items)) }
+    // All these terms more, where there is room; else nothing changes.
+    pub(crate) fn extend(&mut self, more: &[Term], room: Room) -> Result<(), NoRoom>
+        ensures { MatchResult result (λ _. (length self.old.terms.items + length more.now ≤ room.terms) × (self.new.terms.items ≡ self.old.terms.items ++ more.now)) (λ _. (room.terms < length self.old.terms.items + length more.now) × (self.new.terms.items ≡ self.old.terms.items)) }
     {
-        if more.len() > most {
-            return Err(NoRoom);
-        }
-        if self.terms.len() > most - more.len() {
+        if self.terms.len() + more.len() > room.terms {
             return Err(NoRoom);
         }
         let _ = self.terms.extend_from_slice(more);

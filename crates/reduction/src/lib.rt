@@ -1,6 +1,7 @@
 // Reducing a polynomial by a table of rows.
 //
 // buffer    room for the terms of a polynomial, taken once
+// room      how many terms there is room for
 // table     a row of a table: its terms, its leading monomial and the variables that are multiplicative for it
 // refusal   why reducing is refused
 // search    the greatest term that has an involutive divisor, and that divisor
@@ -13,6 +14,7 @@ pub mod buffer;
 mod merge;
 pub mod reduce;
 pub mod refusal;
+mod room;
 pub mod scale;
 pub mod search;
 pub mod subtract;

@@ -2,12 +2,12 @@
 //
 // The contracts here say what the code does on every value; that the sum is written and has the right value is shown
 // of them once, for subtracting.
-ghost use Rattle.std.specs.Prelude.{◌≡◌, ℕ, ◌<◌, ◌≤◌, length, map, MatchOption, MatchResult};
+ghost use Rattle.std.specs.Prelude.{◌≡◌, ℕ, ◌+◌, ◌<◌, ◌≤◌, ◌∷◌, ◌++◌, length, map, MatchOption, MatchResult};
 ghost use Rattle.polynomial.specs.Polynomial.{Poly, term as joined, exponents as exponents_of};
-ghost use Rattle.polynomial.specs.Check.{most_terms};
-ghost use Rattle.reduction.specs.Merging.{image as imaged, code_sum, capped_product, small_product, all_small, Sums, Placed};
+ghost use Rattle.reduction.specs.Merging.{image as imaged, code_sum, capped_product, small_product, all_small, Sums, Placed, Meets};
 
 use crate::buffer::{Buffer, NoRoom};
+use crate::room::Room;
 use field::Field;
 use monomial::Monomial;
 use monomial::order::Order;
@@ -82,36 +82,48 @@ fn join<F: Field>(field: &F, term: &Term, other: &Term) -> Option<Term>
     }
 }
 
-// Adds the factor times a row to the terms, where the sum has at most `room` terms.
+// One term of the multiple: the terms above it go out, and then it, or its sum with the term that has its monomial. What
+// is left of the terms is handed back.
+fn meet<'a, F: Field, O: Order>(
+    ring: &Ring<F, O>,
+    terms: &'a [Term],
+    other: &Term,
+    room: Room,
+    out: &mut Buffer,
+) -> Result<&'a [Term], NoRoom>
+    ensures { MatchResult result (λ rest. (part : Poly) × (out.new.terms.items ≡ out.old.terms.items ++ part) × Meets (F.Field.meaning ring.now.field) (O.Order.meaning ring.now.order) other.now terms.now part rest.now) (λ _. (f : Poly) → (g : Poly) × Sums (F.Field.meaning ring.now.field) (O.Order.meaning ring.now.order) terms.now (other.now ∷ f) g × (room.terms < length out.old.terms.items + length g)) }
+{
+    match find_place(&ring.order, terms, other) {
+        Ok(at) => {
+            out.extend(&terms[..at], room)?;
+            if let Some(sum) = join(&ring.field, &terms[at], other) {
+                out.push(sum, room)?;
+            }
+            Ok(&terms[at + 1..])
+        }
+        Err(at) => {
+            out.extend(&terms[..at], room)?;
+            out.push(*other, room)?;
+            Ok(&terms[at..])
+        }
+    }
+}
+
+// Adds the factor times a row to the terms, where there is room for the sum.
 pub(crate) fn add_multiple<F: Field, O: Order>(
     ring: &Ring<F, O>,
     terms: &[Term],
     row: &[Term],
     factor: &Term,
-    room: usize,
+    room: Room,
     out: &mut Buffer,
 ) -> Result<(), NoRoom>
-    requires { room ≤ most_terms }
-    ensures { MatchResult result (λ _. Sums (F.Field.meaning ring.now.field) (O.Order.meaning ring.now.order) terms.now (map (imaged (F.Field.meaning ring.now.field) factor.now.coefficient (exponents_of factor.now)) row.now) out.new.terms.items × (length out.new.terms.items ≤ room)) (λ _. (g : Poly) × Sums (F.Field.meaning ring.now.field) (O.Order.meaning ring.now.order) terms.now (map (imaged (F.Field.meaning ring.now.field) factor.now.coefficient (exponents_of factor.now)) row.now) g × (room < length g)) }
+    ensures { MatchResult result (λ _. Sums (F.Field.meaning ring.now.field) (O.Order.meaning ring.now.order) terms.now (map (imaged (F.Field.meaning ring.now.field) factor.now.coefficient (exponents_of factor.now)) row.now) out.new.terms.items × (length out.new.terms.items ≤ room.terms)) (λ _. (g : Poly) × Sums (F.Field.meaning ring.now.field) (O.Order.meaning ring.now.order) terms.now (map (imaged (F.Field.meaning ring.now.field) factor.now.coefficient (exponents_of factor.now)) row.now) g × (room.terms < length g)) }
 {
     out.clear();
     let mut rest = terms;
     for term in row {
-        let other = image(&ring.field, factor, term);
-        match find_place(&ring.order, rest, &other) {
-            Ok(at) => {
-                out.extend(&rest[..at], room)?;
-                if let Some(sum) = join(&ring.field, &rest[at], &other) {
-                    out.push(sum, room)?;
-                }
-                rest = &rest[at + 1..];
-            }
-            Err(at) => {
-                out.extend(&rest[..at], room)?;
-                out.push(other, room)?;
-                rest = &rest[at..];
-            }
-        }
+        rest = meet(ring, rest, &image(&ring.field, factor, term), room, out)?;
     }
     out.extend(rest, room)
 }

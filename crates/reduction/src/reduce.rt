@@ -1,5 +1,5 @@
 // Reducing by a table until no term has an involutive divisor.
-ghost use Rattle.std.specs.Prelude.{◌≡◌, ℕ, ◌<◌, ◌≤◌, min, [], length, drop, IfOk, MatchResult};
+ghost use Rattle.std.specs.Prelude.{◌≡◌, ℕ, ◌<◌, ◌≤◌, [], length, drop, IfOk, MatchResult};
 ghost use Rattle.monomial.specs.Monomial.{In, quotient as divided};
 ghost use Rattle.monomial.specs.Division.{Split};
 ghost use Rattle.polynomial.specs.Polynomial.{Written};
@@ -12,12 +12,12 @@ ghost use Rattle.reduction.specs.Reducing.{outcome};
 
 use crate::buffer::{Buffer, NoRoom};
 use crate::refusal::{Denied, Reason};
+use crate::room::Room;
 use crate::search::find_reducible;
 use crate::subtract::{quotient, subtract};
 use crate::table::Row;
 use field::Field;
 use monomial::order::Order;
-use polynomial::check::MOST_TERMS;
 use polynomial::ring::Ring;
 use polynomial::term::Term;
 use std::alloc::{AllocError, Global};
@@ -31,16 +31,23 @@ fn cancel<F: Field, O: Order>(
     row: &Row,
     term: &Term,
     behind: &[Term],
-    room: usize,
+    room: Room,
     out: &mut Buffer,
 ) -> Result<(), Reason>
-    ensures { (n : ℕ) → Written (F.Field.meaning ring.now.field) (O.Order.meaning ring.now.order) n behind.now → Written (F.Field.meaning ring.now.field) (O.Order.meaning ring.now.order) n (drop 1 (terms_of row.now)) → 0 < term.now.coefficient → term.now.coefficient < (F.Field.meaning ring.now.field).q → In n (divided term.now.monomial.exponents row.now.lead.monomial.exponents) → Subtracted (F.Field.meaning ring.now.field) (O.Order.meaning ring.now.order) n (min room most_terms) behind.now (scaled (F.Field.meaning ring.now.field) term.now.coefficient (divided term.now.monomial.exponents row.now.lead.monomial.exponents) (drop 1 (terms_of row.now))) result out.new.terms.items }
+    ensures { (n : ℕ) → Written (F.Field.meaning ring.now.field) (O.Order.meaning ring.now.order) n behind.now → Written (F.Field.meaning ring.now.field) (O.Order.meaning ring.now.order) n (drop 1 (terms_of row.now)) → 0 < term.now.coefficient → term.now.coefficient < (F.Field.meaning ring.now.field).q → In n (divided term.now.monomial.exponents row.now.lead.monomial.exponents) → Subtracted (F.Field.meaning ring.now.field) (O.Order.meaning ring.now.order) n room.terms behind.now (scaled (F.Field.meaning ring.now.field) term.now.coefficient (divided term.now.monomial.exponents row.now.lead.monomial.exponents) (drop 1 (terms_of row.now))) result out.new.terms.items }
 {
     let factor = Term {
         coefficient: term.coefficient,
         monomial: quotient(&term.monomial, &row.lead.monomial),
     };
-    subtract(ring, behind, &row.terms.as_slice()[1..], &factor, room, out)
+    subtract(
+        ring,
+        behind,
+        &row.terms.as_slice()[1..],
+        &factor,
+        room.terms,
+        out,
+    )
 }
 
 // The buffers that reducing needs: what is still to be reduced, what is done, and one for the differences.
@@ -80,7 +87,7 @@ impl Work {
         ensures { (D : Split) (n : ℕ) → SoundTable (setting (F.Field.meaning ring.now.field) (O.Order.meaning ring.now.order) D n) table.now → Acceptable (F.Field.meaning ring.now.field) (O.Order.meaning ring.now.order) n self.old.rest.terms.items → room ≤ most_terms → length self.old.rest.terms.items ≤ room → Reduces (F.Field.meaning ring.now.field) (O.Order.meaning ring.now.order) D n (table_of table.now) room self.old.rest.terms.items (outcome result self.new.done.terms.items) }
     {
         let Work { rest, done, spare } = self;
-        let most = room.min(MOST_TERMS);
+        let most = Room::new(room);
         done.clear();
         for _ in 0..MONOMIALS {
             let terms = rest.terms.as_slice();
@@ -92,7 +99,7 @@ impl Work {
                 }
                 Some((i, k)) => {
                     let _ = done.extend(&terms[..i], most);
-                    let free = most - done.terms.len();
+                    let free = most.after(done.terms.len());
                     cancel(ring, &table[k], &terms[i], &terms[i + 1..], free, spare).map_err(
                         |reason| Denied { reason, row: k + 1 },
                     )?;

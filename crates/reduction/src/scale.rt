@@ -8,6 +8,7 @@ ghost use Rattle.reduction.specs.Subtraction.{Unscaled};
 use crate::buffer::Buffer;
 use crate::merge::{fits, image};
 use crate::refusal::Reason;
+use crate::room::Room;
 use field::Field;
 use polynomial::check::MOST_TERMS;
 use polynomial::term::Term;
@@ -31,7 +32,7 @@ pub fn scale<F: Field>(
     }
     out.clear();
     for term in terms {
-        let _ = out.push(image(field, factor, term), MOST_TERMS);
+        let _ = out.push(image(field, factor, term), Room::ALL);
     }
     Ok(())
 }

@@ -9,10 +9,10 @@ ghost use Rattle.reduction.specs.Subtraction.{Subtracted};
 use crate::buffer::Buffer;
 use crate::merge::{add_multiple, fits};
 use crate::refusal::Reason;
+use crate::room::Room;
 use field::Field;
 use monomial::Monomial;
 use monomial::order::Order;
-use polynomial::check::MOST_TERMS;
 use polynomial::ring::Ring;
 use polynomial::term::Term;
 use std::array::from_fn;
@@ -45,6 +45,6 @@ pub fn subtract<F: Field, O: Order>(
         coefficient: ring.field.neg(factor.coefficient).unwrap_or(0),
         monomial: factor.monomial,
     };
-    add_multiple(ring, terms, row, &negative, room.min(MOST_TERMS), out)?;
+    add_multiple(ring, terms, row, &negative, Room::new(room), out)?;
     Ok(())
 }

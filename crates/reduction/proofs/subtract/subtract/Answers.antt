@@ -27,7 +27,7 @@ returns-in_err-add_multiple g c n v w p b i =
     let s = c.in_err-add_multiple.ensures in
     subst (λ r. Subtracted F O n (min c.args.room most_terms) c.args.terms.now (scaled F c.args.factor.now.coefficient (exponents c.args.factor.now) c.args.row.now) r (vec_items c.add_multiple.new.out.terms)) (sym (too_long c.from_residual.result c.from_residual.ensures.1)) (
       fits_yes F c.args.factor.now.coefficient (exponents c.args.factor.now) c.args.row.now small,
-      (s.0, differs F (g.met.F.Field.laws c.args.ring.now.field) O (g.met.O.Order.laws c.args.ring.now.order) n _ _ _ _ v w p b i _ negative small s.1, omega (arith, s.2, c.min.ensures)),
+      (s.0, differs F (g.met.F.Field.laws c.args.ring.now.field) O (g.met.O.Order.laws c.args.ring.now.order) n _ _ _ _ v w p b i _ negative small s.1, omega (arith, s.2, c.new.ensures)),
     )
 
 pub returns : goal.returns
@@ -38,5 +38,5 @@ returns g c n v w p b i =
     let s = c.in_ok-add_multiple.ensures in (
       fits_yes F c.args.factor.now.coefficient (exponents c.args.factor.now) c.args.row.now small,
       differs F (g.met.F.Field.laws c.args.ring.now.field) (g.O.Order.meaning c.args.ring.now.order) (g.met.O.Order.laws c.args.ring.now.order) n _ _ _ _ v w p b i _ negative small s.0,
-      omega (arith, s.1, c.min.ensures),
+      omega (arith, s.1, c.new.ensures),
     )
