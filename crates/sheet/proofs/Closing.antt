@@ -4,7 +4,7 @@ use lib.ListN.{length-map}
 use Rattle.std.proofs.lemmas.Bool.{both_ways, or_cases}
 use Rattle.monomial.specs.Monomial.{one, same}
 use Rattle.polynomial.specs.Polynomial.{leading}
-use Rattle.involutive.specs.Sheet.{Setting, Lawful, State, Closed, Chosen}
+use Rattle.involutive.specs.Sheet.{Setting, State, Closed, Chosen}
 use Rattle.involutive.specs.Sound.{Sound}
 use Rattle.involutive.specs.Answers.{Judges, verdict_answer, FairCopies}
 use Rattle.calls.specs.declared.refusal.Refusal.{Refusal}
@@ -13,7 +13,7 @@ use Rattle.calls.specs.Told.{copied}
 use Rattle.involutive.proofs.Monomials.{same_true, same_refl}
 use Rattle.involutive.proofs.Verdicts
 use Rattle.reduction.specs.declared.table.Row.{Row}
-use Rattle.reduction.specs.Table.{terms_of, table_of, SoundTable}
+use Rattle.reduction.specs.Table.{terms_of, table_of}
 use Rattle.sheet.specs.declared.choose.Pick.{Pick}
 use Rattle.sheet.specs.Choosing.{chosen}
 use Rattle.sheet.specs.Marks.{marked, state_of}
@@ -55,27 +55,28 @@ at_unit [] i r h e l = absurd (omega (arith, h))
 at_unit (x ∷ rows) zero r h e l = ap (λ b. b || has_unit rows) (ap (λ y. same (lead_of y) one) (sym e) ∙ ap (λ m. same m one) l ∙ same_refl one)
 at_unit (x ∷ rows) (suc i) r h e l = or_right (same (lead_of x) one) (has_unit rows) (at_unit rows i r (omega (arith, h)) e l)
 
--- what the search for a pair finds needs only that the table agrees
-pub chosen_some : (S : Setting) (W : Lawful S) (rows : List Row) (xs : List (List Bool)) → SoundTable S rows → {slice : List Row} (p : Pick) → slice ≡ rows → Some p ≡ chosen S.order S.variables xs slice 1 None → Chosen S (state_of rows xs) p.row p.variable
-chosen_some S W rows xs T p e f = found_chosen S W.order W.variables.1 rows xs T p (sym (f ∙ ap (λ slice. chosen S.order S.variables xs slice 1 None) e))
-
-module _ (S : Setting) (W : Lawful S) (rows : List Row) (xs : List (List Bool)) (I : Whole S rows xs) where
+module _ {S : Setting} {rows : List Row} (W : Whole S rows) (xs : List (List Bool)) where
   abbrev s : State
   s = state_of rows xs
 
-  abbrev found : List Row → Option Pick
-  found slice = chosen S.order S.variables xs slice 1 None
+  -- ---- what the search for a pair finds
 
-  pub closed_none : {slice : List Row} → slice ≡ rows → None ≡ found slice → Closed S s
-  closed_none e f = found_closed S W.order W.variables.1 rows xs I.table (sym (f ∙ ap found e))
+  abbrev found : Option Pick
+  found = chosen S.order S.variables xs rows 1 None
 
-  pub is_closed : {slice : List Row} → slice ≡ rows → true ≡ not (is_some (found slice)) → Closed S s
-  is_closed {slice} e f = closed_none e (sym (none (found slice) f))
+  pub chosen_some : (p : Pick) → Some p ≡ found → Chosen S s p.row p.variable
+  chosen_some p f = found_chosen S W.lawful.order W.lawful.variables.1 rows xs W.agrees p (sym f)
 
-  pub is_open : {slice : List Row} → slice ≡ rows → false ≡ not (is_some (found slice)) → Closed S s → ⊥
-  is_open {slice} e f c =
-      let x = some (found slice) f in
-      let C = chosen_some S W rows xs I.table x.0 e (sym x.1) in
+  pub closed_none : None ≡ found → Closed S s
+  closed_none f = found_closed S W.lawful.order W.lawful.variables.1 rows xs W.agrees (sym f)
+
+  pub is_closed : true ≡ not (is_some found) → Closed S s
+  is_closed f = closed_none (sym (none found f))
+
+  pub is_open : false ≡ not (is_some found) → Closed S s → ⊥
+  is_open f c =
+      let x = some found f in
+      let C = chosen_some x.0 (sym x.1) in
       both_ways (marked xs x.0.row x.0.variable) C.unmarked (c x.0.row x.0.variable C.pair)
 
   -- ---- the verdict
@@ -83,27 +84,27 @@ module _ (S : Setting) (W : Lawful S) (rows : List Row) (xs : List (List Bool)) 
   rows_there : length (table_of rows) ≡ length rows
   rows_there = length-map rows terms_of
 
-  pub verdict_one : {slice : List Row} → slice ≡ rows → Closed S s → true ≡ has_unit slice → Judges S s (verdict_answer 1)
-  verdict_one e c h =
+  pub verdict_one : {slice : List Row} → slice ≡ rows → Closed S s → true ≡ has_unit slice → Sound S s → Judges S s (verdict_answer 1)
+  verdict_one e c h I =
       let u = unit_at rows (sym (h ∙ ap has_unit e)) in
       let l = u.inside in
       let z : suc u.at - 1 ≡ u.at = omega arith in
-      Verdicts.judges_row S W s I.state c (record {
+      Verdicts.judges_row S W.lawful s I c (record {
         k = suc u.at;
         within = (omega arith, subst (λ n. suc u.at ≤ n) (sym rows_there) (omega (arith, l)));
-        leads = ap (λ i. leading (get_or (table_of rows) i [])) z ∙ ap leading (map_at terms_of rows u.at u.it [] l u.is) ∙ sym (I.table u.at u.it l u.is).lead ∙ u.leads;
+        leads = ap (λ i. leading (get_or (table_of rows) i [])) z ∙ ap leading (map_at terms_of rows u.at u.it [] l u.is) ∙ sym (W.agrees u.at u.it l u.is).lead ∙ u.leads;
       })
 
-  pub verdict_zero : {slice : List Row} → slice ≡ rows → Closed S s → false ≡ has_unit slice → Judges S s (verdict_answer 0)
-  verdict_zero e c h = Verdicts.judges_none S W s I.state c (λ k w q.
+  pub verdict_zero : {slice : List Row} → slice ≡ rows → Closed S s → false ≡ has_unit slice → Sound S s → Judges S s (verdict_answer 0)
+  verdict_zero e c h I = Verdicts.judges_none S W.lawful s I c (λ k w q.
       let l : k ≤ length rows = subst (λ n. k ≤ n) rows_there w.1 in
       let o = w.0 in
       let m : k - 1 < length rows = omega (arith, l, o) in
       let x = element rows (k - 1) m in
-      both_ways (has_unit rows) (sym (h ∙ ap has_unit e)) (at_unit rows (k - 1) x.0 m x.1 ((I.table (k - 1) x.0 m x.1).lead ∙ sym (ap leading (map_at terms_of rows (k - 1) x.0 [] m x.1)) ∙ q)))
+      both_ways (has_unit rows) (sym (h ∙ ap has_unit e)) (at_unit rows (k - 1) x.0 m x.1 ((W.agrees (k - 1) x.0 m x.1).lead ∙ sym (ap leading (map_at terms_of rows (k - 1) x.0 [] m x.1)) ∙ q)))
 
   -- ---- the fair copy
 
   pub copied_rows : {slice : List Row} (out : List ℕ) (r : Result Copied Refusal) (out' : List ℕ) → slice ≡ rows → Closed S s →
-      (SoundTable S slice → Sound S (state_of slice xs) → Closed S (state_of slice xs) → FairCopies S (state_of slice xs) out (copied r) out') → FairCopies S s out (copied r) out'
-  copied_rows out r out' e c f = subst (λ x. SoundTable S x → Sound S (state_of x xs) → Closed S (state_of x xs) → FairCopies S (state_of x xs) out (copied r) out') e f I.table I.state c
+      (Sound S (state_of slice xs) → Closed S (state_of slice xs) → FairCopies S (state_of slice xs) out (copied r) out') → Sound S s → FairCopies S s out (copied r) out'
+  copied_rows out r out' e c f I = subst (λ x. Sound S (state_of x xs) → Closed S (state_of x xs) → FairCopies S (state_of x xs) out (copied r) out') e f I c

@@ -6,19 +6,22 @@ use Rattle.std.proofs.lemmas.Bool.{cond-true}
 use Rattle.polynomial.specs.declared.term.Term.{Term}
 use Rattle.field.specs.Field.{FieldMeaning}
 use Rattle.monomial.specs.Order.{Compare}
+use Rattle.monomial.specs.Division.{Within}
 use Rattle.polynomial.specs.Polynomial.{Poly, Falling, none, single, more}
 use Rattle.polynomial.specs.Check.{Acceptable, most_terms}
 use Rattle.polynomial.specs.Bytes.{term_bytes, poly_bytes, copy_bytes}
 use Rattle.polynomial.proofs.Codec.{bytes_push}
-use Rattle.involutive.specs.Reduction.{Table, row, Refusal, refuse, Outcome, left, refused, Reduces}
+use Rattle.involutive.specs.Reduction.{row, Refusal, refuse, Outcome, refused, Reduces}
 use Rattle.involutive.specs.Sheet.{Setting, State, Closed}
-use Rattle.involutive.specs.Sound.{Row as Good}
-use Rattle.involutive.specs.Answers.{ReducesTo, Copied, Copies, copies, copy_refused, copy_end, copy_stuck, copy_later, copy_row, Selection, FairCopies, copy_denied, copy_short, copy_written, copied_answer, denied, front}
+use Rattle.involutive.specs.Answers.{Copied, Copies, copies, copy_refused, copy_end, copy_stuck, copy_later, copy_row, Selection, FairCopies, copy_denied, copy_short, copy_written, copied_answer, denied, front}
 use Rattle.calls.specs.declared.answer.Copied.{Copied as Counts}
 use Rattle.calls.specs.declared.refusal.Refusal.{Refusal as Denial}
 use Rattle.calls.specs.Told.{told, copied}
+use Rattle.reduction.specs.declared.table.Row.{Row}
+use Rattle.reduction.specs.Table.{terms_of, table_of, SoundTable}
 use Rattle.sheet.specs.Copying.{RowCopied, RowsCopied, Delivered}
 use Rattle.sheet.proofs.Additions.{loaded}
+use Rattle.sheet.proofs.Puttings.{row_is}
 
 -- ---- the bytes of terms
 
@@ -62,19 +65,28 @@ others (t ∷ f) a = (
   (let l = a.short in omega arith),
 )
 
--- what was loaded are the other terms, where the row may be handed over
-pub loaded_others : {E : Type 0} {F : FieldMeaning} {O : Compare} {n : ℕ} (f whole back old new : Poly) (r : Result (Unit {0}) E) → whole ≡ f → back ≡ drop 1 whole → Acceptable F O n f → MatchResult r (λ _. (length back ≤ most_terms) × (new ≡ back)) (λ _. (most_terms < length back) × (new ≡ old)) → new ≡ drop 1 f
-loaded_others f whole back old new r p q a e =
-    let d : back ≡ drop 1 f = q ∙ ap (drop 1) p in
-    let l : length back ≤ 39 = subst (λ x. length x ≤ 39) (sym d) (others f a).1 in
-    loaded back old new r (omega (arith, l)) e ∙ d
+-- row k as it was read, and the terms behind its first one, which may be reduced
+pub record Others (S : Setting) (rows : List Row) (k : ℕ) (whole rest : Poly) : Type 0 where
+  pub whole_is : whole ≡ row (table_of rows) k
+  pub rest_is : rest ≡ drop 1 (row (table_of rows) k)
+  pub acceptable : Acceptable S.field S.order S.variables rest
+  pub short : length rest ≤ 39
 
-pub reduced_others : (S : Setting) (T : Table) (f rest : Poly) (o : Outcome) → rest ≡ drop 1 f → Good S f →
-    (Acceptable S.field S.order S.variables rest → 39 ≤ most_terms → length rest ≤ 39 → Reduces S.field S.order S.division S.variables T 39 rest o) →
-    Reduces S.field S.order S.division S.variables T 39 (drop 1 f) o
-reduced_others S T f rest o e a R =
-    let x = others f a.acceptable in
-    subst (λ h. Reduces S.field S.order S.division S.variables T 39 h o) e (R (subst (Acceptable S.field S.order S.variables) (sym e) x.0) (omega arith) (subst (λ h. length h ≤ 39) (sym e) x.1))
+-- what was loaded of the row is them
+pub others_of : {E : Type 0} {S : Setting} {rows : List Row} {k : ℕ} → SoundTable S rows → Within k (length rows) → (r : Row) → r ≡ get_or rows (k - 1) r →
+    (whole back old new : Poly) (x : Result (Unit {0}) E) → whole ≡ terms_of (get_or rows (k - 1) r) → back ≡ drop 1 whole → MatchResult x (λ _. (length back ≤ most_terms) × (new ≡ back)) (λ _. (most_terms < length back) × (new ≡ old)) → Others S rows k whole new
+others_of {S = S} {rows = rows} {k = k} I w r e whole back old new x p q l =
+    let h : k - 1 < length rows = omega (arith, w) in
+    let o = others (terms_of r) (I (k - 1) r h e).good.acceptable in
+    let a : whole ≡ terms_of r = p ∙ ap terms_of (sym e) in
+    let b : back ≡ drop 1 (terms_of r) = q ∙ ap (drop 1) a in
+    let m : length back ≤ 39 = subst (λ y. length y ≤ 39) (sym b) o.1 in
+    let n : new ≡ drop 1 (terms_of r) = loaded back old new x (omega (arith, m)) l ∙ b in
+    let t = row_is rows k r w e in
+    record { whole_is = a ∙ t; rest_is = n ∙ ap (drop 1) t; acceptable = subst (Acceptable S.field S.order S.variables) (sym n) o.0; short = subst (λ y. length y ≤ 39) (sym n) o.1 }
+
+pub reduced_others : {S : Setting} {rows : List Row} {k : ℕ} {whole rest : Poly} {o : Outcome} → Others S rows k whole rest → Reduces S.field S.order S.division S.variables (table_of rows) 39 rest o → Reduces S.field S.order S.division S.variables (table_of rows) 39 (drop 1 (row (table_of rows) k)) o
+reduced_others {S = S} {rows = rows} {o = o} L R = subst (λ h. Reduces S.field S.order S.division S.variables (table_of rows) 39 h o) L.rest_is R
 
 -- ---- the copies of the rows before i
 
@@ -106,9 +118,12 @@ module _ (S : Setting) (s : State) where
   pub progress_none : (ks : List ℕ) (bytes : List ℕ) → bytes ≡ [] → Progress ks 0 bytes
   progress_none ks bytes e = record { fs = []; are = e; counted = refl; goes = λ o c. subst (Copies S s ks) (sym (ahead_none o)) c }
 
-  module _ (ks : List ℕ) (i : ℕ) (h : i < length ks) (f : Poly) (e : row s.rows (get_or ks i 0) ≡ f) where
+  module _ (ks : List ℕ) (i : ℕ) (h : i < length ks) where
     abbrev k : ℕ
     k = get_or ks i 0
+
+    abbrev f : Poly
+    f = row s.rows k
 
     pub progress_more : (old new : List ℕ) → Progress ks i old → RowCopied S s.rows f (Ok tt) old new → Progress ks (i + 1) new
     progress_more old new P (g, R, n) = record {
@@ -121,15 +136,12 @@ module _ (S : Setting) (s : State) where
         copy : Poly
         copy = take 1 f ++ g
 
-        R' : ReducesTo S s (most_terms - 1) (drop 1 (row s.rows k)) (left g)
-        R' = subst (λ x. ReducesTo S s (most_terms - 1) (drop 1 x) (left g)) (sym e) R
-
         one : (o : Copied) → Copies S s (drop (i + 1) ks) o → Copies S s (k ∷ drop (i + 1) ks) (ahead (copy ∷ []) o)
-        one (copies gs) c = subst (λ x. Copies S s (k ∷ drop (i + 1) ks) (copies ((take 1 x ++ g) ∷ gs))) e (copy_row R' c)
-        one (copy_refused r) c = copy_later R' c
+        one (copies gs) c = copy_row R c
+        one (copy_refused r) c = copy_later R c
 
     pub progress_denied : (old : List ℕ) (r : Refusal) → Progress ks i old → Reduces S.field S.order S.division S.variables s.rows (most_terms - 1) (drop 1 f) (refused r) → Copies S s ks (copy_refused r)
-    progress_denied old r P R = P.goes (copy_refused r) (subst (λ x. Copies S s x (copy_refused r)) (sym (drop_more ks i 0 h)) (copy_stuck (subst (λ x. ReducesTo S s (most_terms - 1) (drop 1 x) (refused r)) (sym e) R)))
+    progress_denied old r P R = P.goes (copy_refused r) (subst (λ x. Copies S s x (copy_refused r)) (sym (drop_more ks i 0 h)) (copy_stuck R))
 
   pub progress_all : (ks : List ℕ) (i : ℕ) (bytes : List ℕ) → i ≡ length ks → Progress ks i bytes → RowsCopied S s ks (Ok tt) bytes
   progress_all ks i bytes e P = (

@@ -16,6 +16,10 @@ pub log_add : {S : Setting} {s s' : State} {f : Poly} (r : Result ℕ Refusal) �
 log_add (Ok n) d calls gs a = After.added a d
 log_add (Err e) d calls gs a = After.not_added a d
 
+-- a ring and a division that stayed make the same setting
+pub same_setting : {R D : Type 0} (S : R → D → Setting) {r r' : R} {d d' : D} → (r' ≡ r) × (d' ≡ d) → S r' d' ≡ S r d
+same_setting S e = ap₂ S e.0 e.1
+
 -- rows and marks that stayed make the same state
 pub same_state : (rows rows' : List Row) (m m' : Marks) → rows' ≡ rows → m' ≡ m → state_of rows' (rows_of m') ≡ state_of rows (rows_of m)
 same_state rows rows' m m' e d = ap₂ (λ r x. state_of r (rows_of x)) e d

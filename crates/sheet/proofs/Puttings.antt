@@ -1,12 +1,12 @@
 -- What a remainder and a row answer, from what was put to the front of the lent terms.
-use Rattle.std.proofs.Common.{◌≡◌, ℕ, ◌-◌, ◌≤◌, List, [], length, get_or, None, Ok, Err, Result, sym, subst, arith, MatchResult}
+use Rattle.std.proofs.Common.{◌≡◌, ℕ, ◌-◌, ◌≤◌, List, [], length, get_or, None, Ok, Err, Result, sym, subst, subst₂, arith, MatchResult}
 use lib.ListN.{length-map}
 use Rattle.monomial.specs.Division.{Within}
 use Rattle.polynomial.specs.Polynomial.{Poly}
 use Rattle.polynomial.specs.Check.{most_terms}
 use Rattle.involutive.specs.Reduction.{row, left}
 use Rattle.involutive.specs.Sheet.{Setting, State, Closed}
-use Rattle.involutive.specs.Answers.{front, written, denied, first_fault, ReducesTo, Remains, remainder_short, remainder_written, Shows, row_short, row_written}
+use Rattle.involutive.specs.Answers.{written, denied, first_fault, ReducesTo, Remains, remainder_short, remainder_written, Shows, row_short, row_written}
 use Rattle.calls.specs.declared.refusal.Refusal.{Refusal}
 use Rattle.calls.specs.Told.{told, wrote}
 use Rattle.reduction.specs.declared.table.Row.{Row}
@@ -18,17 +18,22 @@ pub put_within : (g out : Poly) (r : Result ℕ Refusal) (out' : Poly) → Put g
 put_within g out (Ok n) out' p = subst (λ m. m ≤ length out) (sym p.0) p.1
 put_within g out (Err d) out' p = p.2
 
-module _ (S : Setting) (s : State) where
-  pub remains_put : (f g out : Poly) (r : Result ℕ Refusal) (out' : Poly) → Closed S s → first_fault S f ≡ None → ReducesTo S s most_terms f (left g) → Put g out r out' → Remains S s f out (wrote r) out'
-  remains_put f g out (Ok n) out' c e R p = subst (λ o. Remains S s f out (written n) o) (sym p.2) (subst (λ m. Remains S s f out (written m) (front g out)) (sym p.0) (remainder_written c e R p.1))
-  remains_put f g out (Err d) out' c e R p = subst (λ o. Remains S s f out (denied (told d)) o) (sym p.2) (subst (λ x. Remains S s f out (denied (told x)) out) (sym p.0) (remainder_short c e R p.1))
+-- what was put is g, which is left of f or row k
+module _ {S : Setting} {s : State} {g h out : Poly} where
+  pub remains_put : {f : Poly} → Closed S s → first_fault S f ≡ None → ReducesTo S s most_terms f (left g) → (r : Result ℕ Refusal) {out' : Poly} → h ≡ g → Put h out r out' → Remains S s f out (wrote r) out'
+  remains_put {f} c e R r {out'} q p = go r (subst (λ x. Put x out r out') q p)
+    where
+      go : (r : Result ℕ Refusal) → Put g out r out' → Remains S s f out (wrote r) out'
+      go (Ok n) p = subst₂ (λ m o. Remains S s f out (written m) o) (sym p.0) (sym p.2) (remainder_written c e R p.1)
+      go (Err d) p = subst₂ (λ x o. Remains S s f out (denied (told x)) o) (sym p.0) (sym p.2) (remainder_short c e R p.1)
 
-  pub shows_put : (k : ℕ) (g out : Poly) (r : Result ℕ Refusal) (out' : Poly) → Within k (length s.rows) → g ≡ row s.rows k → Put g out r out' → Shows S s k out (wrote r) out'
-  shows_put k g out r out' w e p = go r (subst (λ h. Put h out r out') e p)
+module _ {S : Setting} {s : State} (k : ℕ) {h out : Poly} where
+  pub shows_put : Within k (length s.rows) → (r : Result ℕ Refusal) {out' : Poly} → h ≡ row s.rows k → Put h out r out' → Shows S s k out (wrote r) out'
+  shows_put w r {out'} q p = go r (subst (λ x. Put x out r out') q p)
     where
       go : (r : Result ℕ Refusal) → Put (row s.rows k) out r out' → Shows S s k out (wrote r) out'
-      go (Ok n) p = subst (λ o. Shows S s k out (written n) o) (sym p.2) (subst (λ m. Shows S s k out (written m) (front (row s.rows k) out)) (sym p.0) (row_written w p.1))
-      go (Err d) p = subst (λ o. Shows S s k out (denied (told d)) o) (sym p.2) (subst (λ x. Shows S s k out (denied (told x)) out) (sym p.0) (row_short w p.1))
+      go (Ok n) p = subst₂ (λ m o. Shows S s k out (written m) o) (sym p.0) (sym p.2) (row_written w p.1)
+      go (Err d) p = subst₂ (λ x o. Shows S s k out (denied (told x)) o) (sym p.0) (sym p.2) (row_short w p.1)
 
 pub no_row : (rows : List Row) (k : ℕ) → (Within k (length rows) → ⊥) → Within k (length (table_of rows)) → ⊥
 no_row rows k n w = n (w.0, subst (λ x. k ≤ x) (length-map rows terms_of) w.1)

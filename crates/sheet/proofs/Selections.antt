@@ -1,9 +1,10 @@
 -- Rows put one after another into a rising list.
-use Rattle.std.proofs.Common.{◌≡◌, ℕ, ◌+◌, ◌-◌, ◌<◌, ◌≤◌, Bool, true, false, cond, ◌⊎◌, List, [], ◌∷◌, ◌++◌, map, length, get_or, take, drop, Decides, Ordering, Less, Equal, Greater, sym, refl, ap, ◌∙◌, subst, subst₂, inl, inr, ⊎_elim, append_assoc, arith}
+use Rattle.std.proofs.Common.{◌≡◌, ℕ, ◌+◌, ◌-◌, ◌<◌, ◌≤◌, Bool, true, false, cond, ◌⊎◌, List, [], ◌∷◌, ◌++◌, map, length, get_or, take, drop, Decides, MatchBool, Ordering, Less, Equal, Greater, sym, refl, ap, ◌∙◌, subst, ap₂, subst₂, inl, inr, ⊎_elim, append_assoc, arith}
 use mathlib.Core.List.Memᴰ
 use mathlib.Core.List.{Memᴰ}
 use lib.ListN.{length-map}
-use Rattle.std.specs.List.{insert}
+use Rattle.std.specs.List.{insert, enumerate_from, AllWithin, HoldsAt}
+use Rattle.std.proofs.lemmas.List.FromFn.{length-enumerate_from, get_or-enumerate_from}
 use Rattle.std.specs.Ordering.{is_lt, ordering_reverse}
 use Rattle.std.proofs.lemmas.List.{take_more, drop_more, drop_all, get_or-map}
 use Rattle.std.proofs.lemmas.Bool.{cases_eq, cond-true, cond-false, both_ways}
@@ -31,15 +32,50 @@ lead_from rows i r h e = lead_at rows (i + 1) r (omega arith, omega arith) ∙ a
 
 -- ---- whether a member is divided
 
-pub decides_with : {a b u m : List ℕ} (r : Bool) → a ≡ u → b ≡ m → Decides r (Divides u m) → Decides r (Divides a b)
-decides_with r p q d = subst₂ (λ x y. Decides r (Divides x y)) (sym p) (sym q) d
+-- row k of the table, counted from 1, or one whose leading monomial does not divide this one
+abbrev pub Passes : ℕ → List ℕ → ℕ × Row → Type 0
+Passes k own p = (p.0 ≡ k - 1) ⊎ (Divides (lead_of p.1) own → ⊥)
 
--- the members before i + 1 that are not k do not divide it
-abbrev pub Unseen : List (List ℕ) → ℕ → ℕ → Type 0
-Unseen U k i = (j : ℕ) → Within j i → Divides (member U j) (member U k) → j ≡ k
+-- another row, whose leading monomial divides this one
+abbrev pub Fails : ℕ → List ℕ → ℕ × Row → Type 0
+Fails k own p = (p.0 ≡ k - 1 → ⊥) × Divides (lead_of p.1) own
 
-pub unseen_more : (U : List (List ℕ)) (k i : ℕ) → Unseen U k i → (Divides (member U (i + 1)) (member U k) → i + 1 ≡ k) → Unseen U k (i + 1)
-unseen_more U k i f h j w d = ⊎_elim (λ e. e ∙ h (subst (λ x. Divides (member U x) (member U k)) e d)) (λ n. f j (w.0, omega arith) d) (cases_eq j (i + 1))
+-- row i beside its number, both counted from 0
+record Place (rows : List Row) (i : ℕ) : Type 0 where
+  it : Row
+  leads : member (map lead_of rows) (i + 1) ≡ lead_of it
+  stands : get_or (enumerate_from 0 rows) i (0, it) ≡ (i, it)
+
+place : (rows : List Row) (i : ℕ) → i < length rows → Place rows i
+place rows i h =
+    let x = element rows i h in
+    let z : 0 + i ≡ i = omega arith in
+    record { it = x.0; leads = lead_from rows i x.0 h x.1; stands = get_or-enumerate_from 0 rows i (0, x.0) h ∙ ap₂ (λ a b. (a, b)) z (sym x.1) }
+
+module _ (rows : List Row) (k : ℕ) (w : Within k (length rows)) (r : Row) (e : r ≡ get_or rows (k - 1) r) where
+  own_is : member (map lead_of rows) k ≡ lead_of r
+  own_is = lead_at rows k r w ∙ ap lead_of (sym e)
+
+  -- from what `all` says of the rows and their numbers
+  pub minimal_from_all : (b : Bool) → MatchBool b (AllWithin (Passes k (lead_of r)) (enumerate_from 0 rows) 0 (length (enumerate_from 0 rows))) ((i : ℕ) × (i < length (enumerate_from 0 rows)) × HoldsAt (Fails k (lead_of r)) (enumerate_from 0 rows) i) → Decides b (Undivided (map lead_of rows) k)
+  minimal_from_all true f = (
+    λ _ j v d.
+        let h : j - 1 < length rows = omega (arith, v, length-map rows lead_of) in
+        let z : j - 1 + 1 ≡ j = omega (arith, v) in
+        let p = place rows (j - 1) h in
+        let q : Passes k (lead_of r) (j - 1, p.it) = subst (Passes k (lead_of r)) p.stands (f (j - 1) (0, p.it) (omega arith) (omega (arith, h, length-enumerate_from 0 rows))) in
+        ⊎_elim (λ s. omega (arith, s, v, w)) (λ n. absurd (n (subst₂ Divides (ap (member (map lead_of rows)) (sym z) ∙ p.leads) own_is d))) q,
+    λ _. refl,
+  )
+  minimal_from_all false (i, h, f) = (
+    λ t. absurd (both_ways false refl t),
+    λ u.
+        let l : i < length rows = omega (arith, h, length-enumerate_from 0 rows) in
+        let p = place rows i l in
+        let q : Fails k (lead_of r) (i, p.it) = subst (Fails k (lead_of r)) p.stands (f (0, p.it)) in
+        let s : i + 1 ≡ k = u (i + 1) (omega arith, omega (arith, l, length-map rows lead_of)) (subst₂ Divides (sym p.leads) (sym own_is) q.1) in
+        absurd (q.0 (omega (arith, s))),
+  )
 
 module _ (O : Compare) (U : List (List ℕ)) (k : ℕ) where
   -- ---- the place of k

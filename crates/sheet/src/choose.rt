@@ -10,6 +10,7 @@ ghost use Rattle.sheet.specs.Marks.{rows_of};
 ghost use Rattle.sheet.specs.Choosing.{capped_raise, is_open as opens, better as bettered, consider as considered, scanned, chosen};
 
 use crate::marks::Marks;
+use crate::pair::Pair;
 use crate::sheet::Sheet;
 use field::Field;
 use monomial::Monomial;
@@ -18,8 +19,8 @@ use monomial::order::Order;
 use polynomial::ring::Ring;
 use reduction::table::Lead;
 
-// A pair, and its row's leading monomial times its variable; both count from 1. That they are in range stands in the
-// contracts and not in the type, so that the definitions can speak of any pair.
+// A pair that may be taken, and its row's leading monomial times its variable. The pair's numbers stand here by
+// themselves and not as a `Pair`, so that the definitions can speak of any.
 #[derive(Clone, Copy)]
 pub(crate) struct Pick {
     pub(crate) row: usize,
@@ -28,7 +29,7 @@ pub(crate) struct Pick {
 }
 
 // m times variable v. An exponent of 255 stays: no leading monomial of a sheet has one above 40. One exponent is raised,
-// where a product with the variable would go through six.
+// where a product with the variable would go through six. No pair: of the row the monomial is all that is asked.
 fn raise(m: &Monomial, v: usize) -> Monomial
     requires { Within v width }
     ensures { result.exponents ≡ capped_raise m.now.exponents v }
@@ -53,30 +54,21 @@ fn keep_better<O: Order>(order: &O, pick: Pick, best: &mut Option<Pick>)
 }
 
 // Whether the variable is not multiplicative and the pair is not marked.
-fn is_open(lead: &Lead, marks: &Marks, k: usize, v: usize) -> bool
-    requires { Within k most_rows × Within v width }
-    ensures { result ≡ opens lead.now (rows_of marks.now) k v }
+fn is_open(lead: &Lead, marks: &Marks, pair: Pair) -> bool
+    ensures { result ≡ opens lead.now (rows_of marks.now) pair.row pair.variable }
 {
-    !lead.multiplicative[v - 1] && !marks.has(k, v)
+    !lead.multiplicative[pair.variable - 1] && !marks.has(pair)
 }
 
-// Row k and variable v, where that pair is open.
-fn consider<O: Order>(
-    order: &O,
-    lead: &Lead,
-    marks: &Marks,
-    k: usize,
-    v: usize,
-    best: &mut Option<Pick>,
-)
-    requires { Within k most_rows × Within v width }
-    ensures { best.new ≡ considered (O.Order.meaning order.now) lead.now (rows_of marks.now) k v best.old }
+// The pair, where it is open.
+fn consider<O: Order>(order: &O, lead: &Lead, marks: &Marks, pair: Pair, best: &mut Option<Pick>)
+    ensures { best.new ≡ considered (O.Order.meaning order.now) lead.now (rows_of marks.now) pair.row pair.variable best.old }
 {
-    if is_open(lead, marks, k, v) {
+    if is_open(lead, marks, pair) {
         let pick = Pick {
-            row: k,
-            variable: v,
-            height: raise(&lead.monomial, v),
+            row: pair.row,
+            variable: pair.variable,
+            height: raise(&lead.monomial, pair.variable),
         };
         keep_better(order, pick, best);
     }
@@ -94,7 +86,11 @@ fn scan<F: Field, O: Order>(
     ensures { best.new ≡ scanned (O.Order.meaning ring.now.order) lead.now (rows_of marks.now) k 1 ring.now.variables best.old }
 {
     for v in 1..=ring.variables {
-        consider(&ring.order, lead, marks, k, v, best);
+        let pair = Pair {
+            row: k,
+            variable: v,
+        };
+        consider(&ring.order, lead, marks, pair, best);
     }
 }
 

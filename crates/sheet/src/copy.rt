@@ -1,29 +1,29 @@
 // The fair copy: the rows that no other divides, each with its other terms reduced, as bytes.
 ghost use Rattle.std.specs.Prelude.{◌≡◌, ℕ, ◌+◌, ◌≤◌, Bool, List, [], ◌++◌, length, IfOk, vec_len, vec_capacity, MatchResult};
 ghost use mathlib.Core.List.{Memᴰ};
-ghost use Rattle.monomial.specs.Division.{Split, Within};
+ghost use Rattle.monomial.specs.Division.{Within};
 ghost use Rattle.polynomial.specs.Bytes.{poly_bytes, bytes_needed};
+ghost use Rattle.involutive.specs.Reduction.{row as line};
 ghost use Rattle.involutive.specs.Sheet.{Closed, most_rows};
-ghost use Rattle.involutive.specs.Sound.{Sound, Row as Good};
+ghost use Rattle.involutive.specs.Sound.{Sound};
 ghost use Rattle.involutive.specs.Answers.{FairCopies};
 ghost use Rattle.calls.specs.Told.{copied};
-ghost use Rattle.reduction.specs.Table.{setting, terms_of, table_of, SoundTable};
+ghost use Rattle.reduction.specs.Table.{setting, table_of};
 ghost use Rattle.sheet.specs.Marks.{state_of};
 ghost use Rattle.sheet.specs.Copying.{row_room, copy_room, RowCopied, RowsCopied, Delivered};
 
 use crate::put::put;
+use crate::rows::Rows;
 use crate::select::select;
-use crate::settle::reduce;
 use calls::answer::Copied;
 use calls::refusal::Refusal;
 use field::Field;
+use monomial::division::Division;
 use monomial::order::Order;
 use polynomial::bytes::{TERM_BYTES, term_bytes};
 use polynomial::check::{MOST_ROWS, MOST_TERMS};
-use polynomial::ring::Ring;
 use polynomial::term::Term;
 use reduction::reduce::Work;
-use reduction::table::Row;
 use std::alloc::{AllocError, Global};
 
 // The byte that closes each row of a copy.
@@ -69,49 +69,6 @@ fn push_terms(terms: &[Term], bytes: &mut Vec<u8>)
     }
 }
 
-// The copy of a row: its leading term and what reducing leaves of the others, with room for 39 terms, so that the copy
-// has at most 40.
-fn copy_row<F: Field, O: Order>(
-    ring: &Ring<F, O>,
-    rows: &[Row],
-    row: &Row,
-    work: &mut Work,
-    bytes: &mut Vec<u8>,
-) -> Result<(), Refusal>
-    requires { vec_len bytes.old + row_room ≤ vec_capacity bytes.old }
-    ensures len { vec_len bytes.new ≤ vec_len bytes.old + row_room }
-    ensures room { vec_capacity bytes.old ≤ vec_capacity bytes.new }
-    ensures copy { (D : Split) (n : ℕ) → SoundTable (setting (F.Field.meaning ring.now.field) (O.Order.meaning ring.now.order) D n) rows.now → Good (setting (F.Field.meaning ring.now.field) (O.Order.meaning ring.now.order) D n) (terms_of row.now) → RowCopied (setting (F.Field.meaning ring.now.field) (O.Order.meaning ring.now.order) D n) (table_of rows.now) (terms_of row.now) result bytes.old.items bytes.new.items }
-{
-    let (first, others) = row.terms.as_slice().split_at(1);
-    // A row has at most 40 terms, so there is room.
-    let _ = work.load(others);
-    reduce(ring, rows, MOST_TERMS - 1, work)?;
-    push_terms(first, bytes);
-    push_terms(work.done.terms.as_slice(), bytes);
-    bytes.push_reserved(END_OF_ROW);
-    Ok(())
-}
-
-// The copies of the listed rows, which count from 1, up to the first that is denied.
-fn copy_rows<F: Field, O: Order>(
-    ring: &Ring<F, O>,
-    rows: &[Row],
-    list: &[usize],
-    work: &mut Work,
-    bytes: &mut Vec<u8>,
-) -> Result<(), Refusal>
-    requires { (length list.now ≤ most_rows) × ((k : ℕ) → Memᴰ k list.now → Within k (length rows.now)) × (copy_room ≤ vec_capacity bytes.old) }
-    ensures room { copy_room ≤ vec_capacity bytes.new }
-    ensures copies { (D : Split) (n : ℕ) (xs : List (List Bool)) → SoundTable (setting (F.Field.meaning ring.now.field) (O.Order.meaning ring.now.order) D n) rows.now → RowsCopied (setting (F.Field.meaning ring.now.field) (O.Order.meaning ring.now.order) D n) (state_of rows.now xs) list.now result bytes.new.items }
-{
-    bytes.clear();
-    for k in list {
-        copy_row(ring, rows, &rows[*k - 1], work, bytes)?;
-    }
-    Ok(())
-}
-
 // The bytes to the front of those that were lent, if they suffice.
 fn write_copy(rows: usize, bytes: &[u8], out: &mut [u8]) -> Result<Copied, Refusal>
     ensures { Delivered rows bytes.now out.old result out.new }
@@ -120,19 +77,52 @@ fn write_copy(rows: usize, bytes: &[u8], out: &mut [u8]) -> Result<Copied, Refus
     Ok(Copied { rows, bytes })
 }
 
-// The fair copy of a closed sheet with these rows, into the lent bytes: how many rows and bytes it has.
-pub(crate) fn write_fair_copy<F: Field, O: Order>(
-    ring: &Ring<F, O>,
-    rows: &[Row],
-    work: &mut Work,
-    buffer: &mut CopyBuffer,
-    out: &mut [u8],
-) -> Result<Copied, Refusal>
-    requires { length rows.now ≤ most_rows }
-    ensures within { MatchResult result (λ c. c.bytes ≤ length out.old) (λ _. out.new ≡ out.old) }
-    ensures answer { (D : Split) (n : ℕ) (xs : List (List Bool)) → SoundTable (setting (F.Field.meaning ring.now.field) (O.Order.meaning ring.now.order) D n) rows.now → Sound (setting (F.Field.meaning ring.now.field) (O.Order.meaning ring.now.order) D n) (state_of rows.now xs) → Closed (setting (F.Field.meaning ring.now.field) (O.Order.meaning ring.now.order) D n) (state_of rows.now xs) → FairCopies (setting (F.Field.meaning ring.now.field) (O.Order.meaning ring.now.order) D n) (state_of rows.now xs) out.old (copied result) out.new }
-{
-    select(&ring.order, rows, &mut buffer.list);
-    copy_rows(ring, rows, buffer.list.as_slice(), work, &mut buffer.bytes)?;
-    write_copy(buffer.list.len(), buffer.bytes.as_slice(), out)
+impl<F: Field, O: Order, D: Division> Rows<'_, F, O, D> {
+    // The copy of row k: its leading term and what reducing leaves of the others, with room for 39 terms, so that the
+    // copy has at most 40.
+    fn copy_row(&self, k: usize, work: &mut Work, bytes: &mut Vec<u8>) -> Result<(), Refusal>
+        requires within { Within k (length self.now.rows.now) }
+        requires room { vec_len bytes.old + row_room ≤ vec_capacity bytes.old }
+        ensures len { vec_len bytes.new ≤ vec_len bytes.old + row_room }
+        ensures room { vec_capacity bytes.old ≤ vec_capacity bytes.new }
+        ensures copy { RowCopied (setting (F.Field.meaning self.now.ring.now.field) (O.Order.meaning self.now.ring.now.order) (D.Division.meaning self.now.division.now) self.now.ring.now.variables) (table_of self.now.rows.now) (line (table_of self.now.rows.now) k) result bytes.old.items bytes.new.items }
+    {
+        let (first, others) = self.rows[k - 1].terms.as_slice().split_at(1);
+        // A row has at most 40 terms, so there is room.
+        let _ = work.load(others);
+        self.reduce(MOST_TERMS - 1, work)?;
+        push_terms(first, bytes);
+        push_terms(work.done.terms.as_slice(), bytes);
+        bytes.push_reserved(END_OF_ROW);
+        Ok(())
+    }
+
+    // The copies of the listed rows, which count from 1, up to the first that is denied.
+    fn copy_rows(&self, list: &[usize], work: &mut Work, bytes: &mut Vec<u8>) -> Result<(), Refusal>
+        requires { (length list.now ≤ most_rows) × ((k : ℕ) → Memᴰ k list.now → Within k (length self.now.rows.now)) × (copy_room ≤ vec_capacity bytes.old) }
+        ensures room { copy_room ≤ vec_capacity bytes.new }
+        ensures copies { (xs : List (List Bool)) → RowsCopied (setting (F.Field.meaning self.now.ring.now.field) (O.Order.meaning self.now.ring.now.order) (D.Division.meaning self.now.division.now) self.now.ring.now.variables) (state_of self.now.rows.now xs) list.now result bytes.new.items }
+    {
+        bytes.clear();
+        for k in list {
+            self.copy_row(*k, work, bytes)?;
+        }
+        Ok(())
+    }
+
+    // The fair copy of a closed sheet with these rows, into the lent bytes: how many rows and bytes it has.
+    pub(crate) fn write_fair_copy(
+        &self,
+        work: &mut Work,
+        buffer: &mut CopyBuffer,
+        out: &mut [u8],
+    ) -> Result<Copied, Refusal>
+        requires { length self.now.rows.now ≤ most_rows }
+        ensures within { MatchResult result (λ c. c.bytes ≤ length out.old) (λ _. out.new ≡ out.old) }
+        ensures answer { let S = setting (F.Field.meaning self.now.ring.now.field) (O.Order.meaning self.now.ring.now.order) (D.Division.meaning self.now.division.now) self.now.ring.now.variables in (xs : List (List Bool)) → Sound S (state_of self.now.rows.now xs) → Closed S (state_of self.now.rows.now xs) → FairCopies S (state_of self.now.rows.now xs) out.old (copied result) out.new }
+    {
+        select(&self.ring.order, self.rows, &mut buffer.list);
+        self.copy_rows(buffer.list.as_slice(), work, &mut buffer.bytes)?;
+        write_copy(buffer.list.len(), buffer.bytes.as_slice(), out)
+    }
 }

@@ -6,8 +6,10 @@
 // six      the six calls
 //
 // table    the rows, and the memory for those to come
+// rows     the rows, lent with what they agree with
 // flags    which variables are multiplicative for each row
 // marks    which pairs of a row and a variable are marked
+// pair     a row and a variable
 // choose   the pair that a step takes
 // prolong  a row times a variable
 // append   a row more
@@ -25,8 +27,10 @@ mod copy;
 mod flags;
 mod making;
 mod marks;
+mod pair;
 mod prolong;
 mod put;
+mod rows;
 mod select;
 mod settle;
 pub mod sheet;

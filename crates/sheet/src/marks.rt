@@ -1,10 +1,9 @@
 // Which pairs of a row and a variable are marked.
-ghost use Rattle.std.specs.Prelude.{◌≡◌, ℕ, ◌<◌, ◌≤◌, Bool, true, false, ◌&&◌, ◌||◌, List, length, ◌==◌, slice_set};
-ghost use Rattle.monomial.specs.Division.{Within};
+ghost use Rattle.std.specs.Prelude.{◌≡◌, ℕ, ◌<◌, Bool, true, false, ◌&&◌, ◌||◌, List, length, ◌==◌, slice_set};
 ghost use Rattle.monomial.specs.Monomial.{width};
-ghost use Rattle.involutive.specs.Sheet.{most_rows};
 ghost use Rattle.sheet.specs.Marks.{rows_of, marked};
 
+use crate::pair::Pair;
 use monomial::WIDTH;
 use polynomial::check::MOST_ROWS;
 
@@ -35,20 +34,18 @@ impl Marks {
         }
     }
 
-    // Marks row k at variable v; both count from 1.
-    pub(crate) fn mark(&mut self, k: usize, v: usize)
-        requires { Within k most_rows × Within v width }
-        ensures { (j u : ℕ) → marked (rows_of self.new) j u ≡ ((j == k && u == v) || marked (rows_of self.old) j u) }
+    // Marks the pair.
+    pub(crate) fn mark(&mut self, pair: Pair)
+        ensures { (j u : ℕ) → marked (rows_of self.new) j u ≡ ((j == pair.row && u == pair.variable) || marked (rows_of self.old) j u) }
     {
-        let row = self.rows[k - 1];
-        self.rows[k - 1] = with_mark(row, v - 1);
+        let row = self.rows[pair.row - 1];
+        self.rows[pair.row - 1] = with_mark(row, pair.variable - 1);
     }
 
-    // Whether row k is marked at variable v; both count from 1.
-    pub(crate) fn has(&self, k: usize, v: usize) -> bool
-        requires { Within k most_rows × Within v width }
-        ensures { result ≡ marked (rows_of self.now) k v }
+    // Whether the pair is marked.
+    pub(crate) fn has(&self, pair: Pair) -> bool
+        ensures { result ≡ marked (rows_of self.now) pair.row pair.variable }
     {
-        self.rows[k - 1][v - 1]
+        self.rows[pair.row - 1][pair.variable - 1]
     }
 }

@@ -1,22 +1,24 @@
 // Prolonging: a row times a variable.
-ghost use Rattle.std.specs.Prelude.{◌≡◌, ℕ, length, MatchResult};
-ghost use Rattle.monomial.specs.Division.{Split, Within};
+ghost use Rattle.std.specs.Prelude.{◌≡◌, length, MatchResult};
+ghost use Rattle.monomial.specs.Division.{Within};
 ghost use Rattle.monomial.specs.Monomial.{width, variable as power};
-ghost use Rattle.monomial.specs.Order.{Compare};
 ghost use Rattle.polynomial.specs.Check.{Fits};
 ghost use Rattle.involutive.specs.Value.{scaled};
 ghost use Rattle.involutive.specs.Reduction.{row as line};
-ghost use Rattle.reduction.specs.Table.{setting, table_of, SoundTable};
+ghost use Rattle.reduction.specs.Table.{table_of};
 
+use crate::pair::Pair;
+use crate::rows::Rows;
 use field::Field;
 use monomial::Monomial;
+use monomial::division::Division;
+use monomial::order::Order;
 use polynomial::term::Term;
 use reduction::buffer::Buffer;
 use reduction::refusal::Reason;
 use reduction::scale::scale;
-use reduction::table::Row;
 
-// The variable v by itself; it counts from 1.
+// The variable v by itself; it counts from 1. No pair: there is no row to it.
 fn variable(v: usize) -> Monomial
     requires { Within v width }
     ensures { result.exponents ≡ power v }
@@ -26,21 +28,17 @@ fn variable(v: usize) -> Monomial
     x
 }
 
-// Row k times variable v into the buffer, where no exponent is above 40; both count from 1.
-pub(crate) fn prolong<F: Field>(
-    field: &F,
-    rows: &[Row],
-    k: usize,
-    v: usize,
-    out: &mut Buffer,
-) -> Result<(), Reason>
-    requires { Within k (length rows.now) × Within v width }
-    ensures { (O : Compare) (D : Split) (n : ℕ) → SoundTable (setting (F.Field.meaning field.now) O D n) rows.now → MatchResult result (λ _. Fits (scaled (F.Field.meaning field.now) 1 (power v) (line (table_of rows.now) k)) × (out.new.terms.items ≡ scaled (F.Field.meaning field.now) 1 (power v) (line (table_of rows.now) k))) (λ _. Fits (scaled (F.Field.meaning field.now) 1 (power v) (line (table_of rows.now) k)) → ⊥) }
-{
-    let factor = Term {
-        coefficient: 1,
-        monomial: variable(v),
-    };
-    let row = &rows[k - 1];
-    scale(field, row.terms.as_slice(), &factor, out)
+impl<F: Field, O: Order, D: Division> Rows<'_, F, O, D> {
+    // The pair's row times its variable into the buffer, where no exponent is above 40.
+    pub(crate) fn prolong(&self, pair: Pair, out: &mut Buffer) -> Result<(), Reason>
+        requires { Within pair.row (length self.now.rows.now) }
+        ensures { let h = scaled (F.Field.meaning self.now.ring.now.field) 1 (power pair.variable) (line (table_of self.now.rows.now) pair.row) in MatchResult result (λ _. Fits h × (out.new.terms.items ≡ h)) (λ _. Fits h → ⊥) }
+    {
+        let factor = Term {
+            coefficient: 1,
+            monomial: variable(pair.variable),
+        };
+        let row = &self.rows[pair.row - 1];
+        scale(&self.ring.field, row.terms.as_slice(), &factor, out)
+    }
 }

@@ -19,12 +19,7 @@ fn is_minimal(rows: &[Row], k: usize) -> bool
     ensures { Decides result (Undivided (map lead_of rows.now) k) }
 {
     let own = rows[k - 1].lead.monomial;
-    for (i, other) in rows.iter().enumerate() {
-        if i + 1 != k && other.lead.monomial.divides(&own) {
-            return false;
-        }
-    }
-    true
+    rows.iter().enumerate().all(|(i, other)| i == k - 1 || !other.lead.monomial.divides(&own))
 }
 
 // How the leading monomials of rows j and k compare.

@@ -1,25 +1,23 @@
 // Reducing a polynomial by the rows of a sheet, and appending what is left of it: what add and step have in common.
-ghost use Rattle.std.specs.Prelude.{◌≡◌, ℕ, ◌≤◌, length, MatchResult};
-ghost use Rattle.monomial.specs.Division.{Split};
+ghost use Rattle.std.specs.Prelude.{◌≡◌, ◌≤◌, length};
 ghost use Rattle.polynomial.specs.Check.{Acceptable, most_terms};
 ghost use Rattle.involutive.specs.Reduction.{Reduces, refuse};
 ghost use Rattle.calls.specs.Told.{told};
-ghost use Rattle.reduction.specs.Table.{setting, table_of, SoundTable};
+ghost use Rattle.reduction.specs.Table.{setting, table_of};
 ghost use Rattle.reduction.specs.Reducing.{number};
 ghost use Rattle.sheet.specs.Marks.{rows_of, state_of};
 ghost use Rattle.sheet.specs.Settling.{outcome, Settles, UnlessAppended};
 
 use crate::marks::Marks;
+use crate::rows::Rows;
 use crate::sheet::Sheet;
 use calls::refusal::Refusal;
 use field::Field;
 use monomial::division::Division;
 use monomial::order::Order;
 use polynomial::check::MOST_TERMS;
-use polynomial::ring::Ring;
 use reduction::reduce::Work;
 use reduction::refusal::{Denied, Reason};
-use reduction::table::Row;
 
 // What became of a polynomial that was reduced.
 #[derive(Clone, Copy, PartialEq, Eq, Debug)]
@@ -40,16 +38,16 @@ fn refusal_of(denied: Denied) -> Refusal
     }
 }
 
-// Reduces what `work.rest` holds by the rows, into `work.done`, with room for that many terms.
-pub(crate) fn reduce<F: Field, O: Order>(
-    ring: &Ring<F, O>,
-    rows: &[Row],
-    room: usize,
-    work: &mut Work,
-) -> Result<(), Refusal>
-    ensures { (D : Split) (n : ℕ) → SoundTable (setting (F.Field.meaning ring.now.field) (O.Order.meaning ring.now.order) D n) rows.now → Acceptable (F.Field.meaning ring.now.field) (O.Order.meaning ring.now.order) n work.old.rest.terms.items → room ≤ most_terms → length work.old.rest.terms.items ≤ room → Reduces (F.Field.meaning ring.now.field) (O.Order.meaning ring.now.order) D n (table_of rows.now) room work.old.rest.terms.items (outcome result work.new.done.terms.items) }
-{
-    work.reduce_within(ring, rows, room).map_err(refusal_of)
+impl<F: Field, O: Order, D: Division> Rows<'_, F, O, D> {
+    // Reduces what `work.rest` holds by the rows, into `work.done`, with room for that many terms.
+    pub(crate) fn reduce(&self, room: usize, work: &mut Work) -> Result<(), Refusal>
+        requires acceptable { Acceptable (F.Field.meaning self.now.ring.now.field) (O.Order.meaning self.now.ring.now.order) self.now.ring.now.variables work.old.rest.terms.items }
+        requires room { (length work.old.rest.terms.items ≤ room) × (room ≤ most_terms) }
+        ensures { Reduces (F.Field.meaning self.now.ring.now.field) (O.Order.meaning self.now.ring.now.order) (D.Division.meaning self.now.division.now) self.now.ring.now.variables (table_of self.now.rows.now) room work.old.rest.terms.items (outcome result work.new.done.terms.items) }
+    {
+        work.reduce_within(self.ring, self.rows, room)
+            .map_err(refusal_of)
+    }
 }
 
 impl<F: Field, O: Order, D: Division> Sheet<F, O, D> {
@@ -60,12 +58,12 @@ impl<F: Field, O: Order, D: Division> Sheet<F, O, D> {
         ensures kept { UnlessAppended result ((self.new.table.rows.items ≡ self.old.table.rows.items) × (self.new.marks ≡ self.old.marks)) }
         ensures settles { Settles (setting (F.Field.meaning self.old.ring.field) (O.Order.meaning self.old.ring.order) (D.Division.meaning self.old.division) self.old.ring.variables) (state_of self.old.table.rows.items (rows_of self.old.marks)) self.old.work.rest.terms.items result (state_of self.new.table.rows.items (rows_of self.new.marks)) }
     {
-        reduce(
-            &self.ring,
-            self.table.rows.as_slice(),
-            MOST_TERMS,
-            &mut self.work,
-        )?;
+        let rows = Rows {
+            ring: &self.ring,
+            division: &self.division,
+            rows: self.table.rows.as_slice(),
+        };
+        rows.reduce(MOST_TERMS, &mut self.work)?;
         let done = &self.work.done;
         let left = done.terms.as_slice();
         if left.is_empty() {

@@ -2,9 +2,8 @@
 ghost use Rattle.reduction.specs.Table.{setting as setting_of};
 ghost use Rattle.sheet.specs.Marks.{rows_of, state_of};
 
-use crate::copy::write_fair_copy;
 use crate::put::put;
-use crate::settle::reduce;
+use crate::rows::Rows;
 use crate::sheet::{Sheet, take};
 use crate::unit::leads_with_one;
 use calls::answer::{Copied, Step, Verdict};
@@ -42,12 +41,12 @@ impl<F: Field, O: Order, D: Division> Calls for Sheet<F, O, D> {
             return Err(Refusal::NotClosed);
         }
         take(&self.ring, f, &mut self.work)?;
-        reduce(
-            &self.ring,
-            self.table.rows.as_slice(),
-            MOST_TERMS,
-            &mut self.work,
-        )?;
+        let rows = Rows {
+            ring: &self.ring,
+            division: &self.division,
+            rows: self.table.rows.as_slice(),
+        };
+        rows.reduce(MOST_TERMS, &mut self.work)?;
         put(self.work.done.terms.as_slice(), out)
     }
 
@@ -64,13 +63,12 @@ impl<F: Field, O: Order, D: Division> Calls for Sheet<F, O, D> {
         if !self.is_closed() {
             return Err(Refusal::NotClosed);
         }
-        write_fair_copy(
-            &self.ring,
-            self.table.rows.as_slice(),
-            &mut self.work,
-            &mut self.copy,
-            out,
-        )
+        let rows = Rows {
+            ring: &self.ring,
+            division: &self.division,
+            rows: self.table.rows.as_slice(),
+        };
+        rows.write_fair_copy(&mut self.work, &mut self.copy, out)
     }
 
     // Impossible where 1 lies in the ideal: then a row of a closed sheet leads with 1.

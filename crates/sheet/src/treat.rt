@@ -8,7 +8,8 @@ ghost use Rattle.reduction.specs.Table.{setting};
 ghost use Rattle.sheet.specs.Marks.{rows_of, state_of};
 
 use crate::choose::Pick;
-use crate::prolong::prolong;
+use crate::pair::Pair;
+use crate::rows::Rows;
 use crate::settle::Settled;
 use crate::sheet::Sheet;
 use calls::answer::Step;
@@ -26,19 +27,20 @@ impl<F: Field, O: Order, D: Division> Sheet<F, O, D> {
         ensures refused { OnErr result ((self.new.table.rows.items ≡ self.old.table.rows.items) × (self.new.marks ≡ self.old.marks)) }
         ensures treats { Steps (setting (F.Field.meaning self.old.ring.field) (O.Order.meaning self.old.ring.order) (D.Division.meaning self.old.division) self.old.ring.variables) (state_of self.old.table.rows.items (rows_of self.old.marks)) (stepped result) (state_of self.new.table.rows.items (rows_of self.new.marks)) }
     {
-        let k = pick.row;
-        let v = pick.variable;
-        prolong(
-            &self.ring.field,
-            self.table.rows.as_slice(),
-            k,
-            v,
-            &mut self.work.rest,
-        )
-        .map_err(|_| Refusal::Wide(k))?;
+        let pair = Pair {
+            row: pick.row,
+            variable: pick.variable,
+        };
+        let rows = Rows {
+            ring: &self.ring,
+            division: &self.division,
+            rows: self.table.rows.as_slice(),
+        };
+        rows.prolong(pair, &mut self.work.rest)
+            .map_err(|_| Refusal::Wide(pair.row))?;
         match self.settle()? {
             Settled::Nothing => {
-                self.marks.mark(k, v);
+                self.marks.mark(pair);
                 Ok(Step::Marked)
             }
             Settled::Appended => Ok(Step::Appended),

@@ -1,24 +1,13 @@
-use Rattle.std.proofs.Common.{◌+◌, false, map, refl, arith}
-use lib.ListN.{length-map}
-use Rattle.std.proofs.lemmas.Bool.{both_ways}
-use Rattle.std.proofs.lemmas.Bool.Decides.{not_from_Decides}
+use Rattle.std.proofs.Common.{rules}
+use borrow.Author.Tests.{tests}
+use Rattle.std.proofs.lemmas.Iterator.{cases_from_all, YieldsList-from_slice}
+use Rattle.std.proofs.lemmas.Iterator.Consumers.{YieldsList-from_enumerate}
 use Rattle.sheet.specs.Rows.{lead_of}
-use Rattle.sheet.proofs.Selections.{lead_at, lead_from, decides_with, unseen_more}
+use Rattle.sheet.proofs.Selections.{Passes, Fails, minimal_from_all}
 use Rattle.sheet.proofs.select.is_minimal.Goals as goal
-use Rattle.sheet.proofs.select.is_minimal.Goals.{else-i-k-via-else-i-k, else-i-k-via-then-i-k+else-divides}
 
-pub returns-then-divides : goal.returns-then-divides
-returns-then-divides c =
+pub returns : goal.returns
+returns c =
     let rows = c.args.rows.now in
-    let d = decides_with c.divides.result (lead_from rows c.loop-i.i c.index-rows-i.result c.loop-i-test.true c.index-rows-i.is) (lead_at rows c.args.k _ c.requires) c.divides.ensures in (
-      λ e. absurd (both_ways false refl e),
-      λ u. absurd (c.if-i-k.true (u (c.loop-i.i + 1) (let n = length-map rows lead_of in (omega arith, omega arith)) (d.0 c.if-divides.true))),
-    )
-
-pub loop-i-preserved : goal.loop-i-preserved
-loop-i-preserved c =
-    let rows = c.args.rows.now in
-    unseen_more (map lead_of rows) c.args.k c.loop-i.i c.loop-i.invariant (elim c.else-i-k.branch [
-      | else-i-k-via-then-i-k+else-divides w ↦ λ d. absurd (not_from_Decides w.divides.result (decides_with w.divides.result (lead_from rows c.loop-i.i c.index-rows-i.result c.loop-i-test.true c.index-rows-i.is) (lead_at rows c.args.k _ c.requires) w.divides.ensures) w.if-divides.false d)
-      | else-i-k-via-else-i-k w ↦ λ d. w.if-i-k.false
-    ])
+    let own = lead_of c.index-rows-k.result in
+    minimal_from_all rows c.args.k c.requires c.index-rows-k.result c.index-rows-k.is c.all.result (cases_from_all _ _ c.all.result (Passes c.args.k own) (Fails c.args.k own) c.all.ensures.ran (YieldsList-from_enumerate (YieldsList-from_slice rows cc) cc) (λ x q k. search (rules, tests)) (λ x q k. search (rules, tests)))
