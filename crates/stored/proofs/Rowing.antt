@@ -1,7 +1,6 @@
 -- The rows of a stored table, one behind the other.
 use Rattle.std.proofs.Common.{◌≡◌, ℕ, suc, ◌+◌, ◌-◌, ◌<◌, ◌≤◌, Bool, true, false, cond, ◌||◌, eqb, ltb, ◌⊎◌, List, [], ◌∷◌, ◌++◌, map, length, Some, None, Ok, Err, vec_items, Option, Result, sym, refl, ap, ◌∙◌, subst, inl, inr, arith, length-append}
 use Rattle.std.specs.List.{list_any}
-use Rattle.std.specs.Result.{IsErrAnd}
 use Rattle.std.proofs.lemmas.Bool.{cases_lt}
 use Rattle.field.specs.Field.{FieldMeaning}
 use Rattle.monomial.specs.Monomial.{same}
@@ -79,11 +78,6 @@ row_shorter bytes more f h = omega (arith, ap length h.written, length-append (p
 pub row_comes : (F : FieldMeaning) (O : Compare) (n total : ℕ) (done : List Poly) (bytes more : List ℕ) (f g : Poly) → g ≡ f → IsRun bytes f (2 ∷ more) → row_fault F O n (map leading done) f ≡ None →
     (o : Outcome) → Reads F O n total (done ++ (g ∷ [])) more o → Reads F O n total done bytes o
 row_comes F O n total done bytes more f g e h k o r = row h k (subst (λ x. Reads F O n total (done ++ (x ∷ [])) more o) e r)
-
--- what follows of an error follows of a result that is that error
-pub is_that_error : {X E : Type 0} (P : Result X E → Type 0) (r : Result X E) (e : E) → IsErrAnd r (λ x. x ≡ e) → P (Err e) → P r
-is_that_error P (Ok x) e h p = absurd h
-is_that_error P (Err y) e h p = subst (λ x. P (Err x)) (sym h) p
 
 -- a record that is none, or holds no row
 module _ (F : FieldMeaning) (O : Compare) (n : ℕ) (done : List Poly) (rest : Rest) where

@@ -1,12 +1,13 @@
 -- Words of the crate's own functions; no public contract cites them.
-use Rattle.std.specs.Prelude.{◌≡◌, ℕ, ◌+◌, ◌^◌, ◌<◌, ◌∷◌, length, Ok, Err, vec_items, Result}
+use Rattle.std.specs.Prelude.{◌≡◌, ℕ, ◌+◌, ◌^◌, ◌<◌, ◌∷◌, length, Ok, Err, vec_items, Result, Vec}
+use Rattle.std.specs.declared.alloc.Global.{Global}
 use Rattle.polynomial.specs.declared.bytes.NoRun.{NoRun}
 use Rattle.polynomial.specs.declared.bytes.NoRun.TheVariants.{Cut, Memory as NoMemory}
+use Rattle.polynomial.specs.declared.term.Term.{Term}
 use Rattle.polynomial.specs.Reading.{IsRun}
 use Rattle.stored.specs.declared.fault.Fault.{Fault}
 use Rattle.stored.specs.declared.fault.Fault.TheVariants.{Bad, Memory}
 use Rattle.stored.specs.declared.fault.Reason.TheVariants.{CutTerm}
-use Rattle.stored.specs.declared.record.Record.{Record}
 use Rattle.stored.specs.declared.rest.Rest.{Rest}
 use Rattle.stored.specs.Stored.{NoRecord}
 
@@ -24,7 +25,7 @@ fault_of (Cut k) offset = Bad CutTerm (offset + k)
 fault_of NoMemory offset = Memory
 
 -- the record at the front
-abbrev pub ReadsRecord : Rest → Result Record Fault → Type 0
-ReadsRecord rest (Ok found) = IsRun rest.bytes.now (vec_items found.terms) (2 ∷ found.behind.bytes.now) × (file_length found.behind ≡ file_length rest)
+abbrev pub ReadsRecord : Rest → Result (Vec Term Global × Rest) Fault → Type 0
+ReadsRecord rest (Ok found) = IsRun rest.bytes.now (vec_items found.0) (2 ∷ found.1.bytes.now) × (file_length found.1 ≡ file_length rest)
 ReadsRecord rest (Err (Bad why at)) = (k : ℕ) × (at ≡ rest.offset + k) × NoRecord rest.bytes.now why k
 ReadsRecord rest (Err Memory) = Unit {0}

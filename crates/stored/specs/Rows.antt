@@ -9,7 +9,6 @@ use Rattle.stored.specs.declared.fault.Fault.TheVariants.{Bad, Memory}
 use Rattle.stored.specs.declared.fault.Reason.{Reason}
 use Rattle.stored.specs.declared.rest.Rest.{Rest}
 use Rattle.stored.specs.declared.row.Row.{Row}
-use Rattle.stored.specs.declared.rows.Found.{Found}
 use Rattle.stored.specs.Record.{file_length}
 use Rattle.stored.specs.Stored.{Outcome, rows, bad, Reads}
 
@@ -33,16 +32,16 @@ Fails comes (Bad why at) = comes (bad why at)
 Fails comes Memory = Unit {0}
 
 module _ (F : FieldMeaning) (O : Compare) (n : ℕ) where
-  -- the row that was found stands at the front: what the file comes to behind it, it comes to here
-  pub record IsFound (before : List Poly) (rest : Rest) (found : Found) : Type 0 where
-    pub comes : (o : Outcome) → Reads F O n (file_length rest) (before ++ (vec_items found.row.terms ∷ [])) found.behind.bytes.now o → Reads F O n (file_length rest) before rest.bytes.now o
-    pub file : file_length found.behind ≡ file_length rest
-    pub shorter : length found.behind.bytes.now < length rest.bytes.now
+  -- the row stands at the front: what the file comes to behind it, it comes to here
+  pub record IsFound (before : List Poly) (rest : Rest) (row : Row) (behind : Rest) : Type 0 where
+    pub comes : (o : Outcome) → Reads F O n (file_length rest) (before ++ (vec_items row.terms ∷ [])) behind.bytes.now o → Reads F O n (file_length rest) before rest.bytes.now o
+    pub file : file_length behind ≡ file_length rest
+    pub shorter : length behind.bytes.now < length rest.bytes.now
 
   -- the row at the front, nothing at the end of the file, or what the file comes to
-  abbrev pub ReadsRow : List Poly → Rest → Result (Option Found) Fault → Type 0
+  abbrev pub ReadsRow : List Poly → Rest → Result (Option (Row × Rest)) Fault → Type 0
   ReadsRow before rest (Ok None) = rest.bytes.now ≡ []
-  ReadsRow before rest (Ok (Some found)) = IsFound before rest found
+  ReadsRow before rest (Ok (Some found)) = IsFound before rest found.0 found.1
   ReadsRow before rest (Err e) = Fails (Reads F O n (file_length rest) before rest.bytes.now) e
 
 abbrev pub ReadsRows : (Outcome → Type 0) → Result (Vec Row Global) Fault → Type 0

@@ -10,8 +10,9 @@ use Rattle.polynomial.specs.declared.refusal.Refusal.{Refusal}
 use Rattle.polynomial.specs.Polynomial.{Poly, exponents, leading}
 use Rattle.polynomial.specs.Check.{fault, place}
 use Rattle.polynomial.specs.Reading.{IsRun, IsCut}
+use Rattle.choice.specs.declared.unnamed.Unnamed.TheVariants.{Field, Variables, Order, Division}
 use Rattle.stored.specs.declared.fault.Reason.{Reason}
-use Rattle.stored.specs.declared.fault.Reason.TheVariants.{NoSheet, NoField, NoVariables, NoOrder, NoDivision, CutTerm, OpenRecord, OtherByte, TooManyRows, Refused, Zero, NotMonic, Repeated}
+use Rattle.stored.specs.declared.fault.Reason.TheVariants.{NoSheet, Unnamed, CutTerm, OpenRecord, OtherByte, TooManyRows, Refused, Zero, NotMonic, Repeated}
 use Rattle.stored.specs.declared.fault.Fault.{Fault}
 use Rattle.stored.specs.declared.fault.Fault.TheVariants.{Bad, Memory}
 use Rattle.stored.specs.Text.{table_text}
@@ -38,10 +39,7 @@ after_checks None why = why
 -- how far behind the record's start the fault stands: a refused term stands behind those before it
 abbrev pub behind : Reason → ℕ
 behind NoSheet = 0
-behind NoField = 0
-behind NoVariables = 0
-behind NoOrder = 0
-behind NoDivision = 0
+behind (Unnamed u) = 0
 behind CutTerm = 0
 behind OpenRecord = 0
 behind OtherByte = 0
@@ -84,10 +82,10 @@ shown tells (bad why at) = fault_at why at
 
 pub data Displays (bytes : List ℕ) : Shown → Type 0 where
   no_sheet : ((kind modulus n order division : ℕ) (rest : List ℕ) → Opens bytes kind modulus n order division rest → ⊥) → Displays bytes (fault_at NoSheet 0)
-  no_field : {kind modulus n order division : ℕ} {rest : List ℕ} → Opens bytes kind modulus n order division rest → field_of kind modulus ≡ None → Displays bytes (fault_at NoField 1)
-  no_variables : {kind modulus n order division : ℕ} {rest : List ℕ} {F : FieldMeaning} → Opens bytes kind modulus n order division rest → field_of kind modulus ≡ Some F → (Within n width → ⊥) → Displays bytes (fault_at NoVariables 4)
-  no_order : {kind modulus n order division : ℕ} {rest : List ℕ} {F : FieldMeaning} → Opens bytes kind modulus n order division rest → field_of kind modulus ≡ Some F → Within n width → order_of order ≡ None → Displays bytes (fault_at NoOrder 5)
-  no_division : {kind modulus n order division : ℕ} {rest : List ℕ} {F : FieldMeaning} {O : Compare} → Opens bytes kind modulus n order division rest → field_of kind modulus ≡ Some F → Within n width → order_of order ≡ Some O → division_of division ≡ None → Displays bytes (fault_at NoDivision 6)
+  no_field : {kind modulus n order division : ℕ} {rest : List ℕ} → Opens bytes kind modulus n order division rest → field_of kind modulus ≡ None → Displays bytes (fault_at (Unnamed Field) 1)
+  no_variables : {kind modulus n order division : ℕ} {rest : List ℕ} {F : FieldMeaning} → Opens bytes kind modulus n order division rest → field_of kind modulus ≡ Some F → (Within n width → ⊥) → Displays bytes (fault_at (Unnamed Variables) 4)
+  no_order : {kind modulus n order division : ℕ} {rest : List ℕ} {F : FieldMeaning} → Opens bytes kind modulus n order division rest → field_of kind modulus ≡ Some F → Within n width → order_of order ≡ None → Displays bytes (fault_at (Unnamed Order) 5)
+  no_division : {kind modulus n order division : ℕ} {rest : List ℕ} {F : FieldMeaning} {O : Compare} → Opens bytes kind modulus n order division rest → field_of kind modulus ≡ Some F → Within n width → order_of order ≡ Some O → division_of division ≡ None → Displays bytes (fault_at (Unnamed Division) 6)
   table : {kind modulus n order division : ℕ} {rest : List ℕ} {F : FieldMeaning} {O : Compare} {D : Split} {o : Outcome} → Opens bytes kind modulus n order division rest → field_of kind modulus ≡ Some F → Within n width → order_of order ≡ Some O → division_of division ≡ Some D →
       Reads F O n (length bytes) [] rest o → Displays bytes (shown (table_text D modulus n order division) o)
 

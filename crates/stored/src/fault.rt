@@ -3,7 +3,7 @@ ghost use Rattle.std.specs.Prelude.{◌≡◌, Some as the, codes};
 ghost use Rattle.choice.specs.declared.unnamed.Unnamed.{Unnamed};
 ghost use Rattle.stored.specs.declared.fault.Fault.TheVariants.{Memory};
 ghost use Rattle.stored.specs.declared.fault.Reason.TheVariants.{Refused};
-ghost use Rattle.stored.specs.Faults.{fault_text, reason_text, refusal_text, unnamed_fault};
+ghost use Rattle.stored.specs.Faults.{fault_text, reason_text, unnamed_fault};
 
 use choice::unnamed::Unnamed;
 use polynomial::refusal::Refusal;
@@ -15,14 +15,8 @@ use std::fmt;
 pub enum Reason {
     // The file does not open with a whole sheet command.
     NoSheet,
-    // Kind and modulus name no field.
-    NoField,
-    // The number of variables is not 1 to 6.
-    NoVariables,
-    // The code names no order.
-    NoOrder,
-    // The code names no division.
-    NoDivision,
+    // An operand of the sheet command names nothing.
+    Unnamed(Unnamed),
     // The file ends inside a term.
     CutTerm,
     // The file ends inside a record.
@@ -62,12 +56,13 @@ impl From<Unnamed> for Fault {
     ghost from_gives = { λ unnamed fault. fault ≡ unnamed_fault unnamed };
 
     fn from(unnamed: Unnamed) -> Fault {
-        match unnamed {
-            Unnamed::Field => Fault::Bad(Reason::NoField, 1),
-            Unnamed::Variables => Fault::Bad(Reason::NoVariables, 4),
-            Unnamed::Order => Fault::Bad(Reason::NoOrder, 5),
-            Unnamed::Division => Fault::Bad(Reason::NoDivision, 6),
-        }
+        let offset = match unnamed {
+            Unnamed::Field => 1,
+            Unnamed::Variables => 4,
+            Unnamed::Order => 5,
+            Unnamed::Division => 6,
+        };
+        Fault::Bad(Reason::Unnamed(unnamed), offset)
     }
 }
 
@@ -94,15 +89,12 @@ impl Reason {
     {
         match self {
             Reason::NoSheet => "no whole sheet command",
-            Reason::NoField => "no such field",
-            Reason::NoVariables => "not 1 to 6 variables",
-            Reason::NoOrder => "no such order",
-            Reason::NoDivision => "no such division",
+            Reason::Unnamed(unnamed) => unnamed.describe(),
             Reason::CutTerm => "file ends inside a term",
             Reason::OpenRecord => "file ends inside a record",
             Reason::OtherByte => "neither 01 nor 02",
             Reason::TooManyRows => "more than 32 rows",
-            Reason::Refused(refusal) => refusal_words(refusal),
+            Reason::Refused(refusal) => refusal.describe(),
             Reason::Zero => "row without terms",
             Reason::NotMonic => "leading coefficient is not 1",
             Reason::Repeated => "leading monomial of an earlier row",
@@ -115,18 +107,6 @@ impl fmt::Display for Reason {
 
     fn fmt<W: fmt::Write>(&self, f: &mut fmt::Formatter<W>) -> fmt::Result {
         f.write_str(self.describe())
-    }
-}
-
-// A refusal is another crate's, so that it can have no Display here.
-fn refusal_words(refusal: &Refusal) -> &'static str
-    ensures { result.now ≡ refusal_text refusal.now }
-{
-    match refusal {
-        Refusal::TooManyTerms => "more than 40 terms",
-        Refusal::Coefficient(_) => "coefficient is 0 or no code",
-        Refusal::Exponent(_) => "exponent out of range",
-        Refusal::NotFalling(_) => "term does not fall",
     }
 }
 

@@ -8,13 +8,6 @@ use polynomial::bytes::{NoRun, read_run};
 use polynomial::term::Term;
 use std::alloc::Global;
 
-// A record's terms, and what is left of the file behind it.
-#[derive(Drop)]
-pub(crate) struct Record<'a> {
-    pub(crate) terms: Vec<Term>,
-    pub(crate) behind: Rest<'a>,
-}
-
 // What is wrong where no run of terms stands at that offset.
 fn run_fault(why: NoRun, offset: usize) -> Fault
     requires { WithinFile why offset }
@@ -26,15 +19,11 @@ fn run_fault(why: NoRun, offset: usize) -> Fault
     }
 }
 
-// The record at the front.
-pub(crate) fn read_record(heap: Global, rest: Rest<'_>) -> Result<Record<'_>, Fault>
+// The terms of the record at the front, and what is left of the file behind it.
+pub(crate) fn read_record(heap: Global, rest: Rest<'_>) -> Result<(Vec<Term>, Rest<'_>), Fault>
     ensures { ReadsRecord rest.entry result }
 {
-    // By a match: a closure for `map_err` would have to say again what the offset needs.
-    let (terms, end) = match read_run(heap, rest.bytes) {
-        Ok(run) => run,
-        Err(why) => return Err(run_fault(why, rest.offset)),
-    };
+    let (terms, end) = read_run(heap, rest.bytes).map_err(|why| run_fault(why, rest.offset))?;
     let offset = rest.offset + (rest.bytes.len() - end.len());
     match end {
         [0x02, bytes @ ..] => {
@@ -42,7 +31,7 @@ pub(crate) fn read_record(heap: Global, rest: Rest<'_>) -> Result<Record<'_>, Fa
                 bytes,
                 offset: offset + 1,
             };
-            Ok(Record { terms, behind })
+            Ok((terms, behind))
         }
         [] => Err(Fault::Bad(Reason::OpenRecord, offset)),
         [_, ..] => Err(Fault::Bad(Reason::OtherByte, offset)),

@@ -8,7 +8,7 @@ ghost use Rattle.stored.specs.Record.{file_length};
 ghost use Rattle.stored.specs.Rows.{IsFine, IsRow, ReadsRow, ReadsRows, polys};
 
 use crate::fault::{Fault, Reason};
-use crate::record::{Record, read_record};
+use crate::record::read_record;
 use crate::rest::Rest;
 use crate::row::Row;
 use field::Field;
@@ -72,31 +72,24 @@ fn place_fault(why: Reason, offset: usize) -> usize
     }
 }
 
-// A row, and what is left of the file behind it.
-#[derive(Drop)]
-struct Found<'a> {
-    row: Row,
-    behind: Rest<'a>,
-}
-
-// The row at the front, behind the rows before it; nothing at the end of the file.
+// The row at the front, behind the rows before it, and what is left of the file behind it; nothing at the end of the file.
 fn read_row<'a, F: Field, O: Order>(
     heap: Global,
     ring: &Ring<F, O>,
     before: &[Row],
     rest: Rest<'a>,
-) -> Result<Option<Found<'a>>, Fault>
+) -> Result<Option<(Row, Rest<'a>)>, Fault>
     ensures { ReadsRow (F.Field.meaning ring.now.field) (O.Order.meaning ring.now.order) ring.now.variables (polys before.now) rest.entry result }
 {
     if rest.bytes.is_empty() {
         return Ok(None);
     }
-    let Record { terms, behind } = read_record(heap, rest)?;
-    // By a match: a closure for `map_err` would have to say again what the offset needs.
-    match check_row(ring, before, terms) {
-        Ok(row) => Ok(Some(Found { row, behind })),
-        Err(why) => Err(Fault::Bad(why, place_fault(why, rest.offset))),
-    }
+    let (terms, behind) = read_record(heap, rest)?;
+    let row = check_row(ring, before, terms).map_err(|why| Fault::Bad(
+        why,
+        place_fault(why, rest.offset),
+    ))?;
+    Ok(Some((row, behind)))
 }
 
 // The rows of the records that are left of a file.
@@ -109,7 +102,7 @@ pub(crate) fn read_rows<F: Field, O: Order>(
 {
     let mut rows = Vec::new(heap);
     let mut rest = records;
-    while let Some(Found { row, behind }) = read_row(heap, ring, &rows, rest)? {
+    while let Some((row, behind)) = read_row(heap, ring, &rows, rest)? {
         rows.push(row)?;
         rest = behind;
     }

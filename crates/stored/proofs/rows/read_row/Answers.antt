@@ -1,14 +1,13 @@
-use Rattle.std.proofs.Common.{◌<◌, length, map, vec_items, sym, arith}
+use Rattle.std.proofs.Common.{◌≡◌, ◌+◌, ◌^◌, ◌<◌, length, map, Err, vec_items, sym, refl, subst, arith, rules}
 use borrow.Author.Tests.{eqb-false}
 use Rattle.polynomial.specs.Polynomial.{leading}
+use Rattle.stored.specs.declared.fault.Fault.TheVariants.{Bad}
 use Rattle.stored.specs.Record.{file_length}
-use Rattle.stored.specs.Rows.{polys, ReadsRow}
-use Rattle.stored.proofs.Rowing.{behind_small, is_that_error, record_fails, row_comes, row_fails, row_shorter}
+use Rattle.stored.specs.Rows.{polys, IsRow, ReadsRow}
+use Rattle.stored.specs.Stored.{behind, row_fault}
+use Rattle.stored.proofs.Errors.{is_that_error, kept, renamed}
+use Rattle.stored.proofs.Rowing.{behind_small, record_fails, row_comes, row_fails, row_shorter}
 use Rattle.stored.proofs.rows.read_row.Goals as goal
-
-pub place_fault-requires : goal.place_fault-requires
-place_fault-requires g c =
-    omega (arith, c.args.rest.in_file, behind_small (g.F.Field.meaning c.args.ring.now.field) (g.O.Order.meaning c.args.ring.now.order) c.args.ring.now.variables (map leading (polys c.args.before.now)) (vec_items c.in_ok-terms.field-0.terms) c.in-Err.why c.in-Err.ensures)
 
 pub returns-in_err-terms : goal.returns-in_err-terms
 returns-in_err-terms g c =
@@ -19,15 +18,40 @@ returns-in_err-terms g c =
     is_that_error (ReadsRow F O c.args.ring.now.variables (polys c.args.before.now) c.args.rest) c.from_residual.result e c.from_residual.ensures.1
     (record_fails F O c.args.ring.now.variables (polys c.args.before.now) c.args.rest e some c.in_err-terms.ensures)
 
-pub returns-in-Ok : goal.returns-in-Ok
-returns-in-Ok g c =
+pub map_err-requires : goal.map_err-requires
+map_err-requires g c = λ why is.
+    let F = g.F.Field.meaning c.args.ring.now.field in
+    let O = g.O.Order.meaning c.args.ring.now.order in
+    let n = c.args.ring.now.variables in
+    let before = polys c.args.before.now in
+    let f = vec_items c.in_ok-terms.terms in
+    let bad = subst (IsRow (row_fault F O n (map leading before) f) f) is c.check_row.ensures in
+    let small : c.args.rest.offset + behind why < 2 ^ 64 = omega (arith, c.args.rest.in_file, behind_small F O n (map leading before) f why bad) in
+    search rules
+
+pub returns-in_err-row : goal.returns-in_err-row
+returns-in_err-row g c =
+    let F = g.F.Field.meaning c.args.ring.now.field in
+    let O = g.O.Order.meaning c.args.ring.now.order in
+    let n = c.args.ring.now.variables in
+    let before = polys c.args.before.now in
+    let f = vec_items c.in_ok-terms.terms in
+    let (why, bad, told) = renamed (IsRow (row_fault F O n (map leading before) f) f) _ _ _ c.map_err.ensures.cases c.check_row.ensures c.in_err-row.was in
+    let e : c.in_err-row.field-0.0 ≡ Bad why (c.args.rest.offset + behind why) = search rules in
+    is_that_error (ReadsRow F O n before c.args.rest) c.from_residual-in_err-row.result _ c.from_residual-in_err-row.ensures.1
+    (subst (λ x. ReadsRow F O n before c.args.rest (Err x)) (sym e) (row_fails F O n before c.args.rest why _ _ _ refl c.in_ok-terms.ensures.0 bad))
+
+pub returns : goal.returns
+returns g c =
+    let F = g.F.Field.meaning c.args.ring.now.field in
+    let O = g.O.Order.meaning c.args.ring.now.order in
+    let n = c.args.ring.now.variables in
+    let before = polys c.args.before.now in
+    let f = vec_items c.in_ok-terms.terms in
     let h = c.in_ok-terms.ensures in
+    let (fine, same) = kept (IsRow (row_fault F O n (map leading before) f) f) _ _ _ c.map_err.ensures.cases c.check_row.ensures c.in_ok-row.was in
     record {
-      comes = row_comes (g.F.Field.meaning c.args.ring.now.field) (g.O.Order.meaning c.args.ring.now.order) c.args.ring.now.variables (file_length c.args.rest) (polys c.args.before.now) c.args.rest.bytes.now _ _ _ c.in-Ok.ensures.1 h.0 c.in-Ok.ensures.0;
+      comes = row_comes F O n (file_length c.args.rest) before c.args.rest.bytes.now _ _ _ same h.0 fine;
       file = h.1;
       shorter = row_shorter c.args.rest.bytes.now _ _ h.0;
     }
-
-pub returns-in-Err : goal.returns-in-Err
-returns-in-Err g c =
-    row_fails (g.F.Field.meaning c.args.ring.now.field) (g.O.Order.meaning c.args.ring.now.order) c.args.ring.now.variables (polys c.args.before.now) c.args.rest c.in-Err.why c.place_fault.result _ _ c.place_fault.ensures c.in_ok-terms.ensures.0 c.in-Err.ensures

@@ -1,7 +1,7 @@
 use Rattle.std.proofs.Common.{arith, ltb-false, ltb-true}
 use Rattle.stored.specs.Faults.{unnamed_fault}
 use Rattle.stored.specs.Stored.{Displays, TellsFile}
-use Rattle.stored.proofs.Rowing.{is_that_error}
+use Rattle.stored.proofs.Errors.{is_that_error}
 use Rattle.stored.proofs.Showing.{opens_nothing, file_told}
 use Rattle.stored.proofs.show.show.Goals as goal
 use Rattle.stored.proofs.show.show.Goals.{in_default-via-then-input-lt7, in_default-via-else-input-lt7+in_default-1}
