@@ -114,7 +114,7 @@ module _ (S : Setting) (s : State) where
       Some (record { pair = record { at_row = a; at_variable = b; not_multiplicative = d }; unmarked = f; smallest = λ j u p m. h j p.at_row u p.at_variable p.not_multiplicative m })
 
   -- the choice, by trying every pair
-  abbrev choose : Option ((k : ℕ) × (v : ℕ) × Chosen S s k v)
+  abbrev pub choose : Option ((k : ℕ) × (v : ℕ) × Chosen S s k v)
   choose = some? (λ k. some? (λ v. chosen? k v >>= λ c. Some (k, v, c)) S.variables) (length s.rows)
 
   abbrev room? : Option (length s.rows < most_rows)

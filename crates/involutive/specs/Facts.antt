@@ -26,6 +26,12 @@ pub record Ends (S : Setting) (calls : List Call) (generators rows copy : List P
   pub fair_copy : (out : List ℕ) → length (copy_bytes copy) ≤ length out → FairCopies S state out (copied_answer (length copy) (length (copy_bytes copy))) (front (copy_bytes copy) out)
   pub judged : Judges S state (verdict_answer verdict)
 
+-- after these calls the sheet is not closed yet
+pub record Open (S : Setting) (calls : List Call) (generators : List Poly) : Type 0 where
+  pub state : State
+  pub after : After S calls state generators
+  pub not_closed : Closed S state → ⊥
+
 pub data Fact : Type 0 where
   -- in this field the inverse of a is b
   inverse : FieldMeaning → ℕ → ℕ → Fact
@@ -35,12 +41,15 @@ pub data Fact : Type 0 where
   multiplicative : Split → ℕ → List (List ℕ) → List (List ℕ) → Fact
   -- what calls on a sheet come to: accepted generators, rows, fair copy and verdict
   ends : Setting → List Call → List Poly → List Poly → List Poly → ℕ → Fact
+  -- calls that do not close a sheet yet, and its accepted generators
+  still_open : Setting → List Call → List Poly → Fact
 
 abbrev pub Holds : Fact → Type 0
 Holds (inverse F a b) = (F.inv a ≡ b) × (F.mul a b ≡ 1)
 Holds (below O u m) = Under O u m
 Holds (multiplicative D n U variables) = (k v : ℕ) → Within k (length U) → Within v n → D U k v ≡ Some (listed v (slice_index_or variables (k - 1) []))
 Holds (ends S calls generators rows copy verdict) = Ends S calls generators rows copy verdict
+Holds (still_open S calls generators) = Open S calls generators
 
 -- x1^a x2^b x3^c
 abbrev pub power : ℕ → ℕ → ℕ → List ℕ
@@ -73,6 +82,7 @@ facts =
     ∷ multiplicative janet 2 (power 1 0 0 ∷ power 0 1 0 ∷ []) ((1 ∷ 2 ∷ []) ∷ (2 ∷ []) ∷ [])
     ∷ ends three [] [] [] [] 0
     ∷ ends three (add unit ∷ []) (unit ∷ []) (unit ∷ []) (unit ∷ []) 1
+    ∷ still_open three (step ∷ step ∷ step ∷ step ∷ step ∷ add x1x2+2 ∷ add x1²+2 ∷ []) (x1²+2 ∷ x1x2+2 ∷ [])
     ∷ ends three (step ∷ step ∷ step ∷ step ∷ step ∷ step ∷ add x1x2+2 ∷ add x1²+2 ∷ []) (x1²+2 ∷ x1x2+2 ∷ []) (x1²+2 ∷ x1x2+2 ∷ x1+2x2 ∷ x2²+2 ∷ []) (x2²+2 ∷ x1+2x2 ∷ []) 0
     ∷ []
 
