@@ -1,7 +1,6 @@
-use Rattle.std.proofs.Common.{◌≡◌, suc, ◌+◌, [], ◌∷◌, ◌++◌, length, get_or, take, drop, vec_items, ap, ◌∙◌, subst, add-one, arith}
+use Rattle.std.proofs.Common.{◌+◌, [], ◌∷◌, ◌++◌, take, drop, vec_items, ap, ◌∙◌, add-one, arith}
 use Rattle.std.proofs.lemmas.List.{take_rest}
-use Rattle.polynomial.specs.Polynomial.{term, exponents}
-use Rattle.reduction.specs.Merging.{Sums, Meets}
+use Rattle.polynomial.specs.Polynomial.{term}
 use Rattle.reduction.proofs.Meeting.{met_alone, met_gone, met_both}
 use Rattle.reduction.proofs.AddingUp.{failed, behind, too_long_above, too_long_by_one}
 use Rattle.reduction.proofs.merge.meet.Goals as goal
