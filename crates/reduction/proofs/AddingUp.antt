@@ -1,5 +1,5 @@
 -- A turn of adding up, over plain lists.
-use Rattle.std.proofs.Common.{◌≡◌, ℕ, ◌+◌, ◌<◌, ◌≤◌, [], ◌∷◌, ◌++◌, map, length, get_or, drop, Ok, Err, Result, MatchResult, sym, refl, ap, ◌∙◌, subst, append_assoc, arith, length-append}
+use Rattle.std.proofs.Common.{◌≡◌, ℕ, ◌+◌, ◌<◌, ◌≤◌, [], ◌∷◌, ◌++◌, map, length, get_or, take, drop, Ok, Err, Result, MatchResult, sym, ap, ◌∙◌, subst, append_assoc, arith, length-append}
 use Rattle.std.specs.Result.{IsErr}
 use Rattle.std.proofs.lemmas.Bool.{false≢true}
 use Rattle.std.proofs.lemmas.List.{drop_more, drop_all}
@@ -7,8 +7,9 @@ use Rattle.field.specs.Field.{FieldMeaning}
 use Rattle.monomial.specs.Order.{Compare}
 use Rattle.polynomial.specs.declared.term.Term.{Term}
 use Rattle.polynomial.specs.Polynomial.{Poly}
-use Rattle.reduction.specs.Merging.{Sums, Meets}
+use Rattle.reduction.specs.Merging.{Sums, Above, Meets}
 use Rattle.reduction.proofs.Adding.{summed, lefts}
+use Rattle.reduction.proofs.Meeting.{copied}
 
 -- what became of `out`, to which `part` was to be added
 abbrev pub Extended : {E : Type 0} → Poly → Poly → ℕ → Result (Unit {0}) E → Poly → Type 0
@@ -36,7 +37,11 @@ module _ (F : FieldMeaning) (O : Compare) where
   pub too_long : {h after : Poly} {s : Term} (part : Poly) (more : Poly → Poly) → ((f g : Poly) → Sums F O after (more f) g → Sums F O h (s ∷ f) (part ++ g)) → (out room : ℕ) → room < out + length part → (f : Poly) → (g : Poly) × Sums F O h (s ∷ f) g × (room < out + length g)
   too_long {after = after} part more turns out room l f = let z = summed F O after (more f) in (part ++ z.0, turns f z.0 z.1, omega (arith, length-append part z.0))
 
-  -- the same where the room ends in the middle of it, before its last term
+  -- the same where the room ends among the terms above s
+  pub too_long_above : (h : Poly) (s : Term) (k : ℕ) → Above O s h k → k ≤ length h → (out room : ℕ) → room < out + length (take k h) → (f : Poly) → (g : Poly) × Sums F O h (s ∷ f) g × (room < out + length g)
+  too_long_above h s k above l = too_long (take k h) (λ f. s ∷ f) (copied F O s h k above l)
+
+  -- and where it ends behind them
   pub too_long_by_one : {h after : Poly} {s : Term} (part : Poly) (t : Term) → Meets F O s h (part ++ t ∷ []) after → (out out' : Poly) (room : ℕ) → out' ≡ out ++ part → room ≤ length out' → (f : Poly) → (g : Poly) × Sums F O h (s ∷ f) g × (room < length out + length g)
   too_long_by_one part t meets out out' room e l = too_long (part ++ t ∷ []) (λ f. f) meets (length out) room (omega (arith, ap length e, length-append out part, length-append part (t ∷ [])))
 
@@ -63,9 +68,6 @@ module _ (F : FieldMeaning) (O : Compare) (I : Term → Term) (h row rest : Poly
 
     whole : (g : Poly) → Sums F O rest (s ∷ tail) g → Whole (out ++ g)
     whole g = let e : map I (drop j row) ≡ s ∷ tail = ap (map I) (drop_more row j d inside) ∙ ap (λ x. x ∷ tail) (sym is) in subst (λ x. Sums F O rest x g → Whole (out ++ g)) e (inv g)
-
-    pub turned : (part after out' : Poly) → out' ≡ out ++ part → Meets F O s rest part after → (r : Poly) → Sums F O after tail r → Whole (out' ++ r)
-    turned part after out' e meets r m = subst Whole (sym (ap (λ x. x ++ r) e ∙ append_assoc out part r)) (whole (part ++ r) (meets tail r m))
 
     pub turned_long : (room : ℕ) → ((f : Poly) → (g : Poly) × Sums F O rest (s ∷ f) g × (room < length out + length g)) → Longer room
     turned_long room long = let z = long tail in (out ++ z.0, whole z.0 z.1, let l = z.2 in omega (arith, length-append out z.0))

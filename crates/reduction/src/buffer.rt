@@ -43,6 +43,7 @@ impl Buffer {
             return Err(NoRoom);
         }
         self.clear();
+        // There is room.
         let _ = self.terms.extend_from_slice(terms);
         Ok(())
     }
@@ -65,6 +66,7 @@ impl Buffer {
         if self.terms.len() + more.len() > room.terms {
             return Err(NoRoom);
         }
+        // There is room.
         let _ = self.terms.extend_from_slice(more);
         Ok(())
     }

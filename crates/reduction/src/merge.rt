@@ -55,7 +55,8 @@ pub(crate) fn fits(shift: &Monomial, terms: &[Term]) -> bool
 }
 
 // The place of the term with the other's monomial, or where the terms above it end, if there is none. One comparison of
-// each term tells both.
+// each term tells both: `position`, and then a second comparison, took 7 in a hundred more time in all completions
+// together (5371 µs for 5010 µs). A search by halves would say something of falling lists only.
 fn find_place<O: Order>(order: &O, terms: &[Term], other: &Term) -> Result<usize, usize>
     ensures { Placed (O.Order.meaning order.now) other.now terms.now result }
 {

@@ -93,7 +93,7 @@ impl Work {
             let terms = rest.terms.as_slice();
             match find_reducible(table, terms) {
                 None => {
-                    // There is room where the contract promises anything.
+                    // There is room where the contract promises anything, here and below.
                     let _ = done.extend(terms, most);
                     return Ok(());
                 }

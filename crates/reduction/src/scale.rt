@@ -32,6 +32,7 @@ pub fn scale<F: Field>(
     }
     out.clear();
     for term in terms {
+        // There is room, since the terms are at most 40.
         let _ = out.push(image(field, factor, term), Room::ALL);
     }
     Ok(())

@@ -1,7 +1,7 @@
 use Rattle.std.proofs.Common.{[], vec_items, arith}
 use Rattle.polynomial.specs.Polynomial.{term, exponents}
 use Rattle.reduction.specs.Merging.{image}
-use Rattle.reduction.proofs.AddingUp.{failed, closed, turned, turned_long}
+use Rattle.reduction.proofs.AddingUp.{failed, closed, turned_long}
 use Rattle.reduction.proofs.merge.add_multiple.Goals as goal
 
 pub returns-in_err-rest : goal.returns-in_err-rest
@@ -20,12 +20,3 @@ returns g c =
     let I = image F c.args.factor.now.coefficient (exponents c.args.factor.now) in
     closed F O I c.args.terms.now c.args.row.now c.loop-term.rest.now c.loop-term.term-index (vec_items c.loop-term.out.terms) c.loop-term.invariant
     c.loop-term-test.false c.args.room.terms c.extend.result (vec_items c.extend.new.self.terms) c.extend.ensures
-
-pub loop-term-preserved : goal.loop-term-preserved
-loop-term-preserved g c =
-    let F = g.F.Field.meaning c.args.ring.now.field in
-    let O = g.O.Order.meaning c.args.ring.now.order in
-    let I = image F c.args.factor.now.coefficient (exponents c.args.factor.now) in
-    let met = c.in_ok-rest.ensures in
-    turned F O I c.args.terms.now c.args.row.now c.loop-term.rest.now c.loop-term.term-index (vec_items c.loop-term.out.terms) c.loop-term.invariant
-    c.image.result (term 0 []) (omega arith) c.image.ensures met.0 c.in_ok-rest.rest.now (vec_items c.meet.new.out.terms) met.1 met.2

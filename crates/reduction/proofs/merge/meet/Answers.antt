@@ -1,9 +1,8 @@
-use Rattle.std.proofs.Common.{◌≡◌, suc, ◌+◌, [], ◌∷◌, ◌++◌, length, get_or, take, drop, vec_items, ap, ◌∙◌, subst, add-one, arith}
+use Rattle.std.proofs.Common.{◌+◌, [], ◌∷◌, ◌++◌, take, drop, vec_items, ap, ◌∙◌, add-one, arith}
 use Rattle.std.proofs.lemmas.List.{take_rest}
-use Rattle.polynomial.specs.Polynomial.{term, exponents}
-use Rattle.reduction.specs.Merging.{Sums, Meets}
-use Rattle.reduction.proofs.Meeting.{copied, met_alone, met_gone, met_both}
-use Rattle.reduction.proofs.AddingUp.{failed, behind, too_long, too_long_by_one}
+use Rattle.polynomial.specs.Polynomial.{term}
+use Rattle.reduction.proofs.Meeting.{met_alone, met_gone, met_both}
+use Rattle.reduction.proofs.AddingUp.{failed, behind, too_long_above, too_long_by_one}
 use Rattle.reduction.proofs.merge.meet.Goals as goal
 use Rattle.reduction.proofs.merge.meet.Goals.{in-Some+in_ok-push-in-Ok, in_default}
 
@@ -11,23 +10,15 @@ pub returns-in_err-extend-in-Ok : goal.returns-in_err-extend-in-Ok
 returns-in_err-extend-in-Ok g c =
     let F = g.F.Field.meaning c.args.ring.now.field in
     let O = g.O.Order.meaning c.args.ring.now.order in
-    let h = c.args.terms.now in
-    let s = c.args.other.now in
-    let k = c.in-Ok.at in
     let place = c.in-Ok.ensures in
-    failed _ c.from_residual.result c.from_residual.ensures.0
-    (too_long F O (take k h) (λ f. s ∷ f) (copied F O s h k place.1 (omega (arith, place.0))) _ _ c.in_err-extend-in-Ok.ensures.0)
+    failed _ c.from_residual.result c.from_residual.ensures.0 (too_long_above F O c.args.terms.now c.args.other.now c.in-Ok.at place.1 (omega (arith, place.0)) _ _ c.in_err-extend-in-Ok.ensures.0)
 
 pub returns-in_err-extend-in-Err : goal.returns-in_err-extend-in-Err
 returns-in_err-extend-in-Err g c =
     let F = g.F.Field.meaning c.args.ring.now.field in
     let O = g.O.Order.meaning c.args.ring.now.order in
-    let h = c.args.terms.now in
-    let s = c.args.other.now in
-    let k = c.in-Err.at in
     let place = c.in-Err.ensures in
-    failed _ c.from_residual-in_err-extend-in-Err.result c.from_residual-in_err-extend-in-Err.ensures.0
-    (too_long F O (take k h) (λ f. s ∷ f) (copied F O s h k place.1 place.0) _ _ c.in_err-extend-in-Err.ensures.0)
+    failed _ c.from_residual-in_err-extend-in-Err.result c.from_residual-in_err-extend-in-Err.ensures.0 (too_long_above F O c.args.terms.now c.args.other.now c.in-Err.at place.1 place.0 _ _ c.in_err-extend-in-Err.ensures.0)
 
 pub returns-in_err-push-in-Err : goal.returns-in_err-push-in-Err
 returns-in_err-push-in-Err g c =

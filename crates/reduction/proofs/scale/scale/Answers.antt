@@ -1,5 +1,4 @@
-use Rattle.std.proofs.Common.{◌≡◌, map, length, vec_items, sym, ap, ◌∙◌, arith}
-use lib.ListN.{length-map}
+use Rattle.std.proofs.Common.{◌≡◌, map, vec_items, sym, ap, ◌∙◌, arith}
 use Rattle.std.proofs.lemmas.List.{take_all}
 use Rattle.polynomial.specs.Polynomial.{exponents}
 use Rattle.reduction.specs.Merging.{image}
@@ -9,15 +8,11 @@ use Rattle.reduction.proofs.scale.scale.Goals as goal
 pub returns-then-not-fits-clause-value : goal.returns-then-not-fits-clause-value
 returns-then-not-fits-clause-value g c n o p = fits_no (g.F.Field.meaning c.args.field.now) c.args.factor.now.coefficient (exponents c.args.factor.now) c.args.terms.now (sym c.if-not-fits.ensures)
 
-pub returns : goal.returns
-returns g c =
+pub returns-clause-value : goal.returns-clause-value
+returns-clause-value g c n o p =
     let F = g.F.Field.meaning c.args.field.now in
     let a = exponents c.args.factor.now in
     let f = c.args.terms.now in
-    let I = image F c.args.factor.now.coefficient a in
     let small = sym c.if-not-fits.ensures in
-    let whole : vec_items c.loop-term.out.terms ≡ map I f = c.loop-term.invariant ∙ ap (map I) (take_all c.loop-term.term-index f (omega arith)) in
-    record {
-      all = ap length whole ∙ length-map f I;
-      value = λ n o p. (fits_yes F c.args.factor.now.coefficient a f small, whole ∙ images F (g.met.F.Field.laws c.args.field.now) n c.args.factor.now.coefficient a f p o small);
-    }
+    let whole : vec_items c.loop-term.out.terms ≡ map (image F c.args.factor.now.coefficient a) f = c.loop-term.invariant ∙ ap (map (image F c.args.factor.now.coefficient a)) (take_all c.loop-term.term-index f (omega arith)) in
+    (fits_yes F c.args.factor.now.coefficient a f small, whole ∙ images F (g.met.F.Field.laws c.args.field.now) n c.args.factor.now.coefficient a f p o small)
