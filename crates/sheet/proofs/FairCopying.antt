@@ -115,55 +115,52 @@ module _ (S : Setting) (s : State) where
     pub counted : length fs ≡ i
     pub goes : (o : Copied) → Copies S s (drop i ks) o → Copies S s ks (ahead fs o)
 
-  pub progress_none : (ks : List ℕ) (bytes : List ℕ) → bytes ≡ [] → Progress ks 0 bytes
+module _ {S : Setting} {s : State} where
+  pub progress_none : (ks : List ℕ) (bytes : List ℕ) → bytes ≡ [] → Progress S s ks 0 bytes
   progress_none ks bytes e = record { fs = []; are = e; counted = refl; goes = λ o c. subst (Copies S s ks) (sym (ahead_none o)) c }
 
-  module _ (ks : List ℕ) (i : ℕ) (h : i < length ks) where
-    abbrev k : ℕ
-    k = get_or ks i 0
+  pub progress_more : {ks : List ℕ} {i : ℕ} {old new : List ℕ} → i < length ks → Progress S s ks i old → RowCopied S s.rows (row s.rows (get_or ks i 0)) (Ok tt) old new → Progress S s ks (i + 1) new
+  progress_more {ks = ks} {i = i} h P (g, R, n) = record {
+    fs = P.fs ++ (copy ∷ []);
+    are = n ∙ ap (λ x. x ++ (poly_bytes copy ++ (2 ∷ []))) P.are ∙ sym (copies_push P.fs copy);
+    counted = length-append P.fs (copy ∷ []) ∙ ap (λ x. x + 1) P.counted;
+    goes = λ o c. subst (Copies S s ks) (ahead_more P.fs copy o) (P.goes (ahead (copy ∷ []) o) (subst (λ x. Copies S s x (ahead (copy ∷ []) o)) (sym (drop_more ks i 0 h)) (one o c)));
+  }
+    where
+      copy : Poly
+      copy = take 1 (row s.rows (get_or ks i 0)) ++ g
 
-    abbrev f : Poly
-    f = row s.rows k
+      one : (o : Copied) → Copies S s (drop (i + 1) ks) o → Copies S s (get_or ks i 0 ∷ drop (i + 1) ks) (ahead (copy ∷ []) o)
+      one (copies gs) c = copy_row R c
+      one (copy_refused r) c = copy_later R c
 
-    pub progress_more : (old new : List ℕ) → Progress ks i old → RowCopied S s.rows f (Ok tt) old new → Progress ks (i + 1) new
-    progress_more old new P (g, R, n) = record {
-      fs = P.fs ++ (copy ∷ []);
-      are = n ∙ ap (λ x. x ++ (poly_bytes copy ++ (2 ∷ []))) P.are ∙ sym (copies_push P.fs copy);
-      counted = length-append P.fs (copy ∷ []) ∙ ap (λ x. x + 1) P.counted;
-      goes = λ o c. subst (Copies S s ks) (ahead_more P.fs copy o) (P.goes (ahead (copy ∷ []) o) (subst (λ x. Copies S s x (ahead (copy ∷ []) o)) (sym (drop_more ks i 0 h)) (one o c)));
-    }
-      where
-        copy : Poly
-        copy = take 1 f ++ g
+  pub progress_denied : {ks : List ℕ} {i : ℕ} {old : List ℕ} {r : Refusal} → i < length ks → Progress S s ks i old → Reduces S.field S.order S.division S.variables s.rows (most_terms - 1) (drop 1 (row s.rows (get_or ks i 0))) (refused r) → Copies S s ks (copy_refused r)
+  progress_denied {ks = ks} {i = i} {r = r} h P R = P.goes (copy_refused r) (subst (λ x. Copies S s x (copy_refused r)) (sym (drop_more ks i 0 h)) (copy_stuck R))
 
-        one : (o : Copied) → Copies S s (drop (i + 1) ks) o → Copies S s (k ∷ drop (i + 1) ks) (ahead (copy ∷ []) o)
-        one (copies gs) c = copy_row R c
-        one (copy_refused r) c = copy_later R c
-
-    pub progress_denied : (old : List ℕ) (r : Refusal) → Progress ks i old → Reduces S.field S.order S.division S.variables s.rows (most_terms - 1) (drop 1 f) (refused r) → Copies S s ks (copy_refused r)
-    progress_denied old r P R = P.goes (copy_refused r) (subst (λ x. Copies S s x (copy_refused r)) (sym (drop_more ks i 0 h)) (copy_stuck R))
-
-  pub progress_all : (ks : List ℕ) (i : ℕ) (bytes : List ℕ) → i ≡ length ks → Progress ks i bytes → RowsCopied S s ks (Ok tt) bytes
-  progress_all ks i bytes e P = (
+  pub progress_all : {ks : List ℕ} {i : ℕ} {bytes : List ℕ} → i ≡ length ks → Progress S s ks i bytes → RowsCopied S s ks (Ok tt) bytes
+  progress_all {ks = ks} {i = i} e P = (
     P.fs,
     subst (λ x. Copies S s ks (copies x)) (append-nil P.fs) (P.goes (copies []) (subst (λ x. Copies S s x (copies [])) (sym (drop_all i ks (omega (arith, e)))) copy_end)),
     P.are,
     P.counted ∙ e,
   )
 
--- ---- the answer
+  -- ---- the answer, from the slices of the row numbers and of the bytes
 
-pub fair_denied : {S : Setting} {s : State} (ks bytes out : List ℕ) (d : Denial) → Closed S s → Selection S s ks → RowsCopied S s ks (Err d) bytes → FairCopies S s out (denied (told d)) out
-fair_denied ks bytes out d C P R = copy_denied C P R
+  pub fair_denied : {slice ks out : List ℕ} {r : Refusal} → slice ≡ ks → Closed S s → Selection S s ks → Copies S s slice (copy_refused r) → FairCopies S s out (denied r) out
+  fair_denied {r = r} e C P R = copy_denied C P (subst (λ x. Copies S s x (copy_refused r)) e R)
 
-pub fair_copied : {S : Setting} {s : State} (ks bytes out new : List ℕ) (m : ℕ) (r : Result Counts Denial) → Closed S s → Selection S s ks → RowsCopied S s ks (Ok tt) bytes → m ≡ length ks → Delivered m bytes out r new → FairCopies S s out (copied r) new
-fair_copied {S} {s} ks bytes out new m (Ok c) C P (fs, R, e, n) k (p, q, l, w) =
-    let x : copied_answer (length fs) (length (copy_bytes fs)) ≡ copied_answer c.rows c.bytes = ap₂ copied_answer (n ∙ sym k ∙ sym p) (ap length (sym e) ∙ sym q) in
-    let y : front (copy_bytes fs) out ≡ new = ap (λ b. front b out) (sym e) ∙ sym w in
-    subst₂ (FairCopies S s out) x y (copy_written C P R (subst (λ b. length b ≤ length out) e l))
-fair_copied {S} {s} ks bytes out new m (Err d) C P (fs, R, e, n) k (p, l, w) =
-    let x : denied (refuse 14 (length (copy_bytes fs))) ≡ denied (told d) = ap (λ b. denied (refuse 14 (length b))) (sym e) ∙ ap denied (sym p) in
-    subst₂ (FairCopies S s out) x (sym w) (copy_short C P R (subst (λ b. length out < length b) e l))
+  pub fair_copied : {slice ks bytes lent out new : List ℕ} {m : ℕ} (r : Result Counts Denial) → slice ≡ ks → lent ≡ bytes → Closed S s → Selection S s ks → RowsCopied S s slice (Ok tt) bytes → m ≡ length ks → Delivered m lent out r new → FairCopies S s out (copied r) new
+  fair_copied {ks = ks} {bytes = bytes} {out = out} {new = new} {m = m} r e l C P R k D = go r (subst (λ x. RowsCopied S s x (Ok tt) bytes) e R) (subst (λ x. Delivered m x out r new) l D)
+    where
+      go : (r : Result Counts Denial) → RowsCopied S s ks (Ok tt) bytes → Delivered m bytes out r new → FairCopies S s out (copied r) new
+      go (Ok c) (fs, R, e, n) (p, q, l, w) =
+          let x : copied_answer (length fs) (length (copy_bytes fs)) ≡ copied_answer c.rows c.bytes = ap₂ copied_answer (n ∙ sym k ∙ sym p) (ap length (sym e) ∙ sym q) in
+          let y : front (copy_bytes fs) out ≡ new = ap (λ b. front b out) (sym e) ∙ sym w in
+          subst₂ (FairCopies S s out) x y (copy_written C P R (subst (λ b. length b ≤ length out) e l))
+      go (Err d) (fs, R, e, n) (p, l, w) =
+          let x : denied (refuse 14 (length (copy_bytes fs))) ≡ denied (told d) = ap (λ b. denied (refuse 14 (length b))) (sym e) ∙ ap denied (sym p) in
+          subst₂ (FairCopies S s out) x (sym w) (copy_short C P R (subst (λ b. length out < length b) e l))
 
 pub delivered_within : (m : ℕ) (bytes out new : List ℕ) (r : Result Counts Denial) → Delivered m bytes out r new → MatchResult r (λ c. c.bytes ≤ length out) (λ d. new ≡ out)
 delivered_within m bytes out new (Ok c) (p, q, l, w) = omega (arith, q, l)

@@ -1,8 +1,9 @@
 -- What a call promises on a sound sheet, from its answer: the sheet is sound again, and the call enters the log.
-use Rattle.std.proofs.Common.{◌≡◌, ℕ, List, IfErr, Ok, Err, Result, ap₂}
+use Rattle.std.proofs.Common.{◌≡◌, ℕ, List, IfErr, Ok, Err, Result, sym, subst, ap₂}
 use Rattle.polynomial.specs.Polynomial.{Poly}
 use Rattle.involutive.specs.Sheet.{Setting, State}
 use Rattle.involutive.specs.Answers.{Adds}
+use Rattle.involutive.specs.Sound.{Sound}
 use Rattle.involutive.specs.Log.{Call, After}
 use Rattle.involutive.specs.Log as log_of
 use Rattle.calls.specs.declared.refusal.Refusal.{Refusal}
@@ -16,9 +17,9 @@ pub log_add : {S : Setting} {s s' : State} {f : Poly} (r : Result ℕ Refusal) �
 log_add (Ok n) d calls gs a = After.added a d
 log_add (Err e) d calls gs a = After.not_added a d
 
--- a ring and a division that stayed make the same setting
-pub same_setting : {R D : Type 0} (S : R → D → Setting) {r r' : R} {d d' : D} → (r' ≡ r) × (d' ≡ d) → S r' d' ≡ S r d
-same_setting S e = ap₂ S e.0 e.1
+-- a ring and a division that stayed make the same setting, in which a sound state is sound
+pub stays_sound : {R D : Type 0} (S : R → D → Setting) {r r' : R} {d d' : D} {s : State} → (r' ≡ r) × (d' ≡ d) → Sound (S r d) s → Sound (S r' d') s
+stays_sound S {s = s} e I = subst (λ x. Sound x s) (sym (ap₂ S e.0 e.1)) I
 
 -- rows and marks that stayed make the same state
 pub same_state : (rows rows' : List Row) (m m' : Marks) → rows' ≡ rows → m' ≡ m → state_of rows' (rows_of m') ≡ state_of rows (rows_of m)

@@ -27,15 +27,22 @@ module _ (O : Compare) (Q : OrderLaws O) (Op : ℕ → ℕ → Type 0) (H : ℕ 
   move Seen Seen' top top' f g t (Some b) B = record { seen = f _ _ B.seen; opens = B.opens; height = B.height; low = (let x = B.low in omega arith); least = λ j u s o. B.least j u (g j u s) o }
 
   module _ (Seen Seen' : ℕ → ℕ → Type 0) (k v : ℕ) (f : (j u : ℕ) → Seen j u → Seen' j u) (g : (j u : ℕ) → Seen' j u → Seen j u ⊎ ((j ≡ k) × (u ≡ v))) (here : Seen' k v) (wide : (j u : ℕ) → Seen' j u → Wide (H j u)) where
-    passes : (best : Option Pick) → (Op k v → ⊥) → Holds Seen k best → Holds Seen' k best
-    passes None n B = λ j u s o. ⊎_elim (λ x. B j u x o) (λ e. n (subst₂ Op e.0 e.1 o)) (g j u s)
-    passes (Some b) n B = record {
+    tall : (b : Pick) → Best Seen k b → Wide b.height.exponents
+    tall b B = subst Wide (sym B.height) (wide _ _ (f _ _ B.seen))
+
+    -- the best pair so far stays the best where pair k v is no better
+    stays : (b : Pick) → Best Seen k b → (Op k v → Under O b.height.exponents (H k v) ⊎ ((b.height.exponents ≡ H k v) × (b.row ≤ k))) → Best Seen' k b
+    stays b B h = record {
       seen = f _ _ B.seen;
       opens = B.opens;
       height = B.height;
       low = B.low;
-      least = λ j u s o. ⊎_elim (λ x. B.least j u x o) (λ e. absurd (n (subst₂ Op e.0 e.1 o))) (g j u s);
+      least = λ j u s o. ⊎_elim (λ x. B.least j u x o) (λ e. subst₂ (λ j u. Op j u → Under O b.height.exponents (H j u) ⊎ ((b.height.exponents ≡ H j u) × (b.row ≤ j))) (sym e.0) (sym e.1) h o) (g j u s);
     }
+
+    passes : (best : Option Pick) → (Op k v → ⊥) → Holds Seen k best → Holds Seen' k best
+    passes None n B = λ j u s o. ⊎_elim (λ x. B j u x o) (λ e. n (subst₂ Op e.0 e.1 o)) (g j u s)
+    passes (Some b) n B = stays b B (λ o. absurd (n o))
 
     abbrev p : Pick
     p = pick k v (H k v)
@@ -50,32 +57,11 @@ module _ (O : Compare) (Q : OrderLaws O) (Op : ℕ → ℕ → Type 0) (H : ℕ 
       height = refl;
       low = omega arith;
       least = λ j u s o. ⊎_elim (λ x. ⊎_elim
-          (λ l. inl (Q.transitive (H k v) b.height.exponents (H j u) (wide k v here) bw (wide j u s) e l))
+          (λ l. inl (Q.transitive (H k v) b.height.exponents (H j u) (wide k v here) (tall b B) (wide j u s) e l))
           (λ l. inl (subst (Under O (H k v)) l.0 e)) (B.least j u x o)) (self j u) (g j u s);
     }
-      where
-        bw : Wide b.height.exponents
-        bw = subst Wide (sym B.height) (wide _ _ (f _ _ B.seen))
-    against b op B Equal e = record {
-      seen = f _ _ B.seen;
-      opens = B.opens;
-      height = B.height;
-      low = B.low;
-      least = λ j u s o. ⊎_elim (λ x. B.least j u x o) (λ d. inr (sym ((Q.equal (H k v) b.height.exponents (wide k v here) bw).0 e) ∙ ap₂ H (sym d.0) (sym d.1), (let x = d.0 in let y = B.low in omega arith))) (g j u s);
-    }
-      where
-        bw : Wide b.height.exponents
-        bw = subst Wide (sym B.height) (wide _ _ (f _ _ B.seen))
-    against b op B Greater e = record {
-      seen = f _ _ B.seen;
-      opens = B.opens;
-      height = B.height;
-      low = B.low;
-      least = λ j u s o. ⊎_elim (λ x. B.least j u x o) (λ d. inl (subst (Under O b.height.exponents) (ap₂ H (sym d.0) (sym d.1)) (Q.total (H k v) b.height.exponents (wide k v here) bw ∙ ap ordering_reverse e))) (g j u s);
-    }
-      where
-        bw : Wide b.height.exponents
-        bw = subst Wide (sym B.height) (wide _ _ (f _ _ B.seen))
+    against b op B Equal e = stays b B (λ _. inr (sym ((Q.equal (H k v) b.height.exponents (wide k v here) (tall b B)).0 e), B.low))
+    against b op B Greater e = stays b B (λ _. inl (Q.total (H k v) b.height.exponents (wide k v here) (tall b B) ∙ ap ordering_reverse e))
 
     takes : (best : Option Pick) → Op k v → Holds Seen k best → Holds Seen' k (better O p best)
     takes None op B = record { seen = here; opens = op; height = refl; low = omega arith; least = λ j u s o. ⊎_elim (λ x. absurd (B j u x o)) (self j u) (g j u s) }

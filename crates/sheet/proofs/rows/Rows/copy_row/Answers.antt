@@ -1,4 +1,4 @@
-use Rattle.std.proofs.Common.{◌≡◌, take, vec_items, Err, ap, ◌∙◌, arith, rules}
+use Rattle.std.proofs.Common.{take, vec_items, ap, ◌∙◌}
 use Rattle.involutive.specs.Reduction.{row}
 use Rattle.reduction.specs.Table.{table_of}
 use Rattle.sheet.proofs.FairCopying.{row_bytes, others_of, reduced_others}
@@ -10,27 +10,10 @@ reduce-requires-clause-acceptable g c =
     let L = others_of x.agrees c.requires.within c.index-self-k.result c.index-self-k.is c.as_slice.result.now c.split_at.result.1.now (vec_items c.args.work.now.rest.terms) (vec_items c.load.new.self.rest.terms) c.load.result c.as_slice.ensures.value c.split_at.ensures.back c.load.ensures in
     L.acceptable
 
-pub reduce-requires-clause-room : goal.reduce-requires-clause-room
-reduce-requires-clause-room g c =
-    let x = c.args.self.now in
-    let L = others_of x.agrees c.requires.within c.index-self-k.result c.index-self-k.is c.as_slice.result.now c.split_at.result.1.now (vec_items c.args.work.now.rest.terms) (vec_items c.load.new.self.rest.terms) c.load.result c.as_slice.ensures.value c.split_at.ensures.back c.load.ensures in
-    (L.short, omega arith)
-
-pub returns-in_err-reduce : goal.returns-in_err-reduce
-returns-in_err-reduce g c =
-    let x = c.args.self.now in
-    let L = others_of x.agrees c.requires.within c.index-self-k.result c.index-self-k.is c.as_slice.result.now c.split_at.result.1.now (vec_items c.args.work.now.rest.terms) (vec_items c.load.new.self.rest.terms) c.load.result c.as_slice.ensures.value c.split_at.ensures.back c.load.ensures in
-    let z : c.from_residual.result ≡ Err c.in_err-reduce.field-0.0 = search rules in
-    rw z (record { len = omega arith; room = omega arith; copy = reduced_others L c.in_err-reduce.ensures })
-
-pub returns : goal.returns
-returns g c =
+pub returns-clause-copy : goal.returns-clause-copy
+returns-clause-copy g c =
     let x = c.args.self.now in
     let L = others_of x.agrees c.requires.within c.index-self-k.result c.index-self-k.is c.as_slice.result.now c.split_at.result.1.now (vec_items c.args.work.now.rest.terms) (vec_items c.load.new.self.rest.terms) c.load.result c.as_slice.ensures.value c.split_at.ensures.back c.load.ensures in
     let h = vec_items c.reduce.new.work.done.terms in
     let p = c.split_at.ensures.front ∙ ap (take 1) L.whole_is in
-    record {
-      len = search rules;
-      room = search rules;
-      copy = (h, reduced_others L c.in_ok-reduce.ensures, row_bytes (row (table_of x.rows.now) c.args.k) h c.split_at.result.0.now c.as_slice-2.result.now (vec_items c.args.bytes.now) (vec_items c.push_terms.new.bytes) (vec_items c.push_terms-2.new.bytes) (vec_items c.push_reserved.new.self) p c.as_slice-2.ensures.value c.push_terms.ensures.items c.push_terms-2.ensures.items c.push_reserved.ensures.items);
-    }
+    (h, reduced_others L c.in_ok-reduce.ensures, row_bytes (row (table_of x.rows.now) c.args.k) h c.split_at.result.0.now c.as_slice-2.result.now (vec_items c.args.bytes.now) (vec_items c.push_terms.new.bytes) (vec_items c.push_terms-2.new.bytes) (vec_items c.push_reserved.new.self) p c.as_slice-2.ensures.value c.push_terms.ensures.items c.push_terms-2.ensures.items c.push_reserved.ensures.items)

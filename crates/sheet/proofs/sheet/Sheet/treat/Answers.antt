@@ -1,4 +1,4 @@
-use Rattle.std.proofs.Common.{◌≡◌, Err, vec_items, refl, ap, ◌∙◌, rules}
+use Rattle.std.proofs.Common.{◌≡◌, Err, vec_items, ap, ◌∙◌, rules}
 use borrow.Author.Tests.{tests}
 use Rattle.calls.specs.declared.refusal.Refusal.TheVariants.{Wide}
 use Rattle.reduction.proofs.Renaming.{renamed, unrefused}
@@ -7,16 +7,15 @@ use Rattle.sheet.proofs.Whole.{whole}
 use Rattle.sheet.proofs.Treating.{prolonged_of, acceptable, treat_wide, treat_denied, treat_marked, treat_appended}
 use Rattle.sheet.proofs.sheet.Sheet.treat.Goals as goal
 
-pub returns-in_err-map_err : goal.returns-in_err-map_err
-returns-in_err-map_err g c =
-    let x = c.args.self.now in
+pub returns-in_err-map_err-clause-treats : goal.returns-in_err-map_err-clause-treats
+returns-in_err-map_err-clause-treats g c =
     let d = c.in_err-map_err.field-0.0 in
     let e = renamed c.prolong.result c.map_err.result _ c.map_err.ensures.cases d c.in_err-map_err.was in
     let q = e.2 in
     let is : d ≡ Wide c.args.pick.row = search (rules, tests) in
     let y : c.from_residual.result ≡ Err d = search rules in
     let z : c.from_residual.result ≡ Err (Wide c.args.pick.row) = y ∙ ap Err is in
-    rw z (record { kept = (refl, refl); refused = (refl, refl); treats = treat_wide (rows_of x.marks) c.requires.chosen c.prolong.result (vec_items c.prolong.new.out.terms) c.as_slice.ensures.value c.prolong.ensures e.0 e.1 })
+    rw z (treat_wide (rows_of c.args.self.now.marks) c.requires.chosen c.prolong.result (vec_items c.prolong.new.out.terms) c.as_slice.ensures.value c.prolong.ensures e.0 e.1)
 
 pub settle-requires : goal.settle-requires
 settle-requires g c =
@@ -25,31 +24,28 @@ settle-requires g c =
     let P = prolonged_of W c.requires.chosen c.prolong.result (vec_items c.prolong.new.out.terms) c.as_slice.ensures.value c.prolong.ensures (unrefused c.prolong.result c.map_err.result _ c.map_err.ensures.cases c.in_ok-map_err.field-0 c.in_ok-map_err.was) in
     acceptable P
 
-pub returns-in_err-settle : goal.returns-in_err-settle
-returns-in_err-settle g c =
+pub returns-in_err-settle-clause-treats : goal.returns-in_err-settle-clause-treats
+returns-in_err-settle-clause-treats g c =
     let x = c.args.self.now in
     let W = whole (g.met.F.Field.laws x.ring.field) (g.met.O.Order.laws x.ring.order) (g.met.D.Division.laws x.division) x.some x.few (vec_items x.table.rows) x.agrees in
     let P = prolonged_of W c.requires.chosen c.prolong.result (vec_items c.prolong.new.out.terms) c.as_slice.ensures.value c.prolong.ensures (unrefused c.prolong.result c.map_err.result _ c.map_err.ensures.cases c.in_ok-map_err.field-0 c.in_ok-map_err.was) in
     let y = c.settle.new.self in
     let d = c.in_err-settle.field-0.0 in
-    let q = c.in_err-settle.ensures in
     let z : c.from_residual-in_err-settle.result ≡ Err d = search rules in
-    rw z (record { kept = q.setting; refused = q.kept; treats = treat_denied P d (state_of (vec_items y.table.rows) (rows_of y.marks)) q.settles })
+    rw z (treat_denied P d (state_of (vec_items y.table.rows) (rows_of y.marks)) c.in_err-settle.ensures.settles)
 
-pub returns-in-Nothing : goal.returns-in-Nothing
-returns-in-Nothing g c =
+pub returns-in-Nothing-clause-treats : goal.returns-in-Nothing-clause-treats
+returns-in-Nothing-clause-treats g c =
     let x = c.args.self.now in
     let W = whole (g.met.F.Field.laws x.ring.field) (g.met.O.Order.laws x.ring.order) (g.met.D.Division.laws x.division) x.some x.few (vec_items x.table.rows) x.agrees in
     let P = prolonged_of W c.requires.chosen c.prolong.result (vec_items c.prolong.new.out.terms) c.as_slice.ensures.value c.prolong.ensures (unrefused c.prolong.result c.map_err.result _ c.map_err.ensures.cases c.in_ok-map_err.field-0 c.in_ok-map_err.was) in
     let y = c.settle.new.self in
-    let q = c.in_ok-settle.ensures in
-    record { kept = q.setting; refused = tt; treats = treat_marked P c.in_ok-settle.field-0 (vec_items y.table.rows) (rows_of y.marks) (rows_of c.mark.new.self) c.in-Nothing.is q.settles c.mark.ensures }
+    treat_marked P c.in_ok-settle.field-0 (vec_items y.table.rows) (rows_of y.marks) (rows_of c.mark.new.self) c.in-Nothing.is c.in_ok-settle.ensures.settles c.mark.ensures
 
-pub returns-in-Appended : goal.returns-in-Appended
-returns-in-Appended g c =
+pub returns-in-Appended-clause-treats : goal.returns-in-Appended-clause-treats
+returns-in-Appended-clause-treats g c =
     let x = c.args.self.now in
     let W = whole (g.met.F.Field.laws x.ring.field) (g.met.O.Order.laws x.ring.order) (g.met.D.Division.laws x.division) x.some x.few (vec_items x.table.rows) x.agrees in
     let P = prolonged_of W c.requires.chosen c.prolong.result (vec_items c.prolong.new.out.terms) c.as_slice.ensures.value c.prolong.ensures (unrefused c.prolong.result c.map_err.result _ c.map_err.ensures.cases c.in_ok-map_err.field-0 c.in_ok-map_err.was) in
     let y = c.settle.new.self in
-    let q = c.in_ok-settle.ensures in
-    record { kept = q.setting; refused = tt; treats = treat_appended P c.in_ok-settle.field-0 (state_of (vec_items y.table.rows) (rows_of y.marks)) c.in-Appended.is q.settles }
+    treat_appended P c.in_ok-settle.field-0 (state_of (vec_items y.table.rows) (rows_of y.marks)) c.in-Appended.is c.in_ok-settle.ensures.settles
