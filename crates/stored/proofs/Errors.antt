@@ -1,5 +1,5 @@
 -- Results whose errors are passed on, or take another name on the way.
-use Rattle.std.proofs.Common.{◌≡◌, Ok, Err, MatchResult, Result, sym, refl, subst}
+use Rattle.std.proofs.Common.{◌≡◌, Ok, Err, MatchResult, Result, sym, subst}
 use Rattle.std.specs.Result.{IsErrAnd}
 
 -- what follows of an error follows of a result that is that error

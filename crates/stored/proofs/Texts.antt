@@ -1,21 +1,34 @@
 -- Text that is written piece by piece.
-use Rattle.std.proofs.Common.{◌≡◌, ℕ, suc, ◌+◌, ◌-◌, ◌<◌, ◌≤◌, Bool, false, ◌||◌, ltb, List, [], ◌∷◌, ◌++◌, length, get_or, drop, Some, None, vec_items, codes, Option, unwrap_or, sym, refl, ap, ◌∙◌, append_assoc, add-one, arith}
-use Rattle.std.proofs.Math.Bool.{or_comm}
+use Rattle.std.proofs.Common.{◌≡◌, ℕ, suc, ◌+◌, ◌-◌, ◌<◌, ◌≤◌, Bool, true, false, cond, eqb, decimal, List, [], ◌∷◌, ◌++◌, length, get_or, drop, vec_items, codes, sym, refl, ap, ◌∙◌, append_assoc, add-one, arith}
+use Rattle.std.proofs.lemmas.Bool.{eq-eqb, ne_eqb}
 use Rattle.std.proofs.lemmas.List.{at_drop_more}
+use Rattle.std.specs.Fmt.{HasWritten}
+use Rattle.std.specs.declared.fmt.Formatter.{Formatter}
 use Rattle.polynomial.specs.declared.term.Term.{Term}
 use Rattle.polynomial.specs.Polynomial.{Poly}
 use Rattle.monomial.specs.Division.{Split}
 use Rattle.stored.specs.declared.row.Row.{Row}
 use Rattle.stored.specs.Rows.{polys}
-use Rattle.stored.specs.Text.{row_text, rows_text, factor_text, powers_text, term_text, behind_text, poly_text, says_yes, variable_text, variables_text}
+use Rattle.stored.proofs.Writing.{HasLeft, no_more, one_more, all_written}
+use Rattle.stored.specs.Text.{row_text, rows_text, power_text, powers_text, term_text, behind_text, poly_text, variables_text}
 
--- the powers from place i on
-pub powers_from : (m : List ℕ) (i : ℕ) (s : Bool) → i < length m →
-    powers_text (suc i) s (drop i m) ≡ factor_text (i + 1) s (get_or m i 0) ++ powers_text (suc (i + 1)) (s || ltb 0 (get_or m i 0)) (drop (i + 1) m)
-powers_from m i s h =
-    at_drop_more (powers_text (suc i) s) m i 0 h
-    ∙ ap (λ k. factor_text k s (get_or m i 0) ++ powers_text (suc k) (ltb 0 (get_or m i 0) || s) (drop (i + 1) m)) (sym (add-one i))
-    ∙ ap (λ x. factor_text (i + 1) s (get_or m i 0) ++ powers_text (suc (i + 1)) x (drop (i + 1) m)) (or_comm (ltb 0 (get_or m i 0)) s)
+powers_from : (m : List ℕ) (i : ℕ) (mark : List ℕ) → i < length m →
+    powers_text (suc i) mark (drop i m)
+    ≡ cond (eqb (get_or m i 0) 0) (powers_text (suc (i + 1)) mark (drop (i + 1) m)) (mark ++ (power_text (i + 1) (get_or m i 0) ++ powers_text (suc (i + 1)) (codes "*") (drop (i + 1) m)))
+powers_from m i mark h =
+    at_drop_more (powers_text (suc i) mark) m i 0 h
+    ∙ ap (λ k. cond (eqb (get_or m i 0) 0) (powers_text (suc k) mark (drop (i + 1) m)) (mark ++ (power_text k (get_or m i 0) ++ powers_text (suc k) (codes "*") (drop (i + 1) m)))) (sym (add-one i))
+
+-- the powers from place i on, where the exponent there is 0, and where it is not
+module _ {W : Type 0} {took : W → List ℕ → W → Type 0} {f g : Formatter W} {whole : List ℕ} (m : List ℕ) (i : ℕ) (mark : List ℕ) where
+  pub power_skipped : i < length m → get_or m i 0 ≤ 0 → HasLeft took f whole (powers_text (suc i) mark (drop i m)) g → HasLeft took f whole (powers_text (suc (i + 1)) mark (drop (i + 1) m)) g
+  power_skipped h z left = let e : eqb (get_or m i 0) 0 ≡ true = eq-eqb _ _ (omega arith) in no_more (rw (powers_from m i mark h, e)) left
+
+  pub power_written : {g' : Formatter W} → i < length m → 0 < get_or m i 0 → HasLeft took f whole (powers_text (suc i) mark (drop i m)) g → HasWritten took g (mark ++ power_text (i + 1) (get_or m i 0)) g' →
+      HasLeft took f whole (powers_text (suc (i + 1)) (codes "*") (drop (i + 1) m)) g'
+  power_written h p left w =
+      let e : eqb (get_or m i 0) 0 ≡ false = ne_eqb _ _ (λ q. absurd (omega arith)) in
+      one_more (mark ++ power_text (i + 1) (get_or m i 0)) (rw (powers_from m i mark h, e) (sym (append_assoc mark (power_text (i + 1) (get_or m i 0)) (powers_text (suc (i + 1)) (codes "*") (drop (i + 1) m))))) left w
 
 -- the terms from place i on
 pub behind_from : (f : Poly) (i : ℕ) (d : Term) → i < length f → behind_text (drop i f) ≡ (codes " + " ++ term_text (get_or f i d)) ++ behind_text (drop (i + 1) f)
@@ -25,23 +38,19 @@ pub poly_pieces : (f : Poly) (d : Term) → 0 < length f → poly_text f ≡ ter
 poly_pieces [] d h = absurd (omega arith)
 poly_pieces (t ∷ f) d h = refl
 
--- the variables from number k on
-module _ (test : ℕ → Bool) (n k : ℕ) (s : Bool) where
-  pub variables_from : (told : Bool) → k ≤ n → told ≡ test k →
-      variables_text test k s (suc n - k) ≡ variable_text told s k ++ variables_text test (k + 1) (s || told) (suc n - (k + 1))
-  variables_from told h p =
-      let e : suc n - k ≡ suc (suc n - (k + 1)) = omega arith in
-      ap (variables_text test k s) e
-      ∙ ap (λ j. variable_text (test k) s k ++ variables_text test j (test k || s) (suc n - (k + 1))) (sym (add-one k))
-      ∙ ap (λ b. variable_text b s k ++ variables_text test (k + 1) (b || s) (suc n - (k + 1))) (sym p)
-      ∙ ap (λ b. variable_text told s k ++ variables_text test (k + 1) b (suc n - (k + 1))) (or_comm told s)
+-- the variables from number k on, where that one passes, where it does not, and where it is past the last
+module _ {W : Type 0} {took : W → List ℕ → W → Type 0} {f g : Formatter W} {whole : List ℕ} (test : ℕ → Bool) (n k : ℕ) (mark : List ℕ) where
+  pub variable_skipped : k ≤ n → test k ≡ false → HasLeft took f whole (variables_text test k mark (suc n - k)) g → HasLeft took f whole (variables_text test (k + 1) mark (suc n - (k + 1))) g
+  variable_skipped h p left =
+      let e : suc n - k ≡ suc (suc n - (k + 1)) = omega arith in no_more (rw (e, p, add-one k)) left
 
-  pub variables_none : n < k → variables_text test k s (suc n - k) ≡ []
-  variables_none h = let e : suc n - k ≡ 0 = omega arith in ap (variables_text test k s) e
+  pub variable_written : {g' : Formatter W} → k ≤ n → test k ≡ true → HasLeft took f whole (variables_text test k mark (suc n - k)) g → HasWritten took g (mark ++ (codes "x" ++ decimal k)) g' →
+      HasLeft took f whole (variables_text test (k + 1) (codes ", ") (suc n - (k + 1))) g'
+  variable_written h p left w =
+      let e : suc n - k ≡ suc (suc n - (k + 1)) = omega arith in one_more (mark ++ (codes "x" ++ decimal k)) (rw (e, p, add-one k) (simp append_assoc)) left w
 
-pub says : (o : Option Bool) → unwrap_or o false ≡ says_yes o
-says None = refl
-says (Some b) = refl
+  pub variables_written : n < k → HasLeft took f whole (variables_text test k mark (suc n - k)) g → HasWritten took f whole g
+  variables_written h left = let e : suc n - k ≡ 0 = omega arith in all_written (ap (variables_text test k mark) e) left
 
 -- the rows from place i on
 pub rows_from : (D : Split) (U : List (List ℕ)) (n : ℕ) (rs : List Row) (i : ℕ) (r : Row) → i < length rs → r ≡ get_or rs i r →

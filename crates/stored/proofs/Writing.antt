@@ -1,5 +1,5 @@
 -- Text that is written piece by piece.
-use Rattle.std.proofs.Common.{◌≡◌, ℕ, List, [], ◌++◌, refl, sym, ap, ◌∙◌, append_assoc, append-nil}
+use Rattle.std.proofs.Common.{◌≡◌, ℕ, List, [], ◌++◌, refl, sym, ap, ◌∙◌, subst, append_assoc, append-nil}
 use Rattle.std.proofs.Output.{has_written_append, has_written_of_eq}
 use Rattle.std.specs.Fmt.{HasWritten, IsPlainFormatter}
 use Rattle.std.specs.declared.fmt.Formatter.{Formatter}
@@ -13,6 +13,9 @@ pub record HasLeft {W : Type 0} (took : W → List ℕ → W → Type 0) (f : Fo
 module _ {W : Type 0} {took : W → List ℕ → W → Type 0} {f : Formatter W} {whole rest : List ℕ} where
   pub nothing_yet : IsPlainFormatter f → rest ≡ whole → HasLeft took f whole rest f
   nothing_yet plain e = record { text = []; written = record { wrote = record { parts = []; calls = refl; whole = refl }; plain = plain }; is = e }
+
+  pub no_more : {behind : List ℕ} {g : Formatter W} → rest ≡ behind → HasLeft took f whole rest g → HasLeft took f whole behind g
+  no_more {behind} {g} e p = subst (λ x. HasLeft took f whole x g) e p
 
   pub one_more : (piece : List ℕ) {behind : List ℕ} {g h : Formatter W} → rest ≡ piece ++ behind → HasLeft took f whole rest g → HasWritten took g piece h → HasLeft took f whole behind h
   one_more piece {behind} e p q = record {

@@ -1,5 +1,6 @@
 -- A table as people write it: a line on the setting, then a line for each row.
-use Rattle.std.specs.Prelude.{ℕ, zero, suc, Bool, false, cond, not, ◌||◌, List, [], ◌∷◌, ◌++◌, map, length, Some, None, codes, decimal, Option, ◌==◌, nat_lt}
+use Rattle.std.specs.Prelude.{ℕ, zero, suc, Bool, false, cond, not, ◌||◌, List, [], ◌∷◌, ◌++◌, map, length, codes, decimal, ◌==◌}
+use Rattle.std.specs.Option.{unwrap_or}
 use Rattle.monomial.specs.Monomial.{degree}
 use Rattle.monomial.specs.Division.{Split}
 use Rattle.polynomial.specs.declared.term.Term.{Term}
@@ -9,21 +10,17 @@ use Rattle.polynomial.specs.Polynomial.{Poly, exponents, leading}
 abbrev pub power_text : ℕ → ℕ → List ℕ
 power_text v e = codes "x" ++ (decimal v ++ cond (e == 1) [] (codes "^" ++ decimal e))
 
--- one power of a monomial, with a star before it where something stands before it; nothing at exponent 0
-abbrev pub factor_text : ℕ → Bool → ℕ → List ℕ
-factor_text v started e = cond (e == 0) [] (cond started (codes "*") [] ++ power_text v e)
-
--- the powers from variable v on
-abbrev pub powers_text : ℕ → Bool → List ℕ → List ℕ
-powers_text v started [] = []
-powers_text v started (e ∷ m) = factor_text v started e ++ powers_text (suc v) (nat_lt 0 e || started) m
+-- the powers from variable v on: the mark stands before the first, and a star before each further one
+abbrev pub powers_text : ℕ → List ℕ → List ℕ → List ℕ
+powers_text v mark [] = []
+powers_text v mark (e ∷ m) = cond (e == 0) (powers_text (suc v) mark m) (mark ++ (power_text v e ++ powers_text (suc v) (codes "*") m))
 
 -- the coefficient is written unless it is 1 before a power
 abbrev pub has_coefficient : Term → Bool
 has_coefficient t = degree (exponents t) == 0 || not (t.coefficient == 1)
 
 abbrev pub term_text : Term → List ℕ
-term_text t = cond (has_coefficient t) (decimal t.coefficient) [] ++ powers_text 1 (has_coefficient t) (exponents t)
+term_text t = cond (has_coefficient t) (decimal t.coefficient ++ powers_text 1 (codes "*") (exponents t)) (powers_text 1 [] (exponents t))
 
 -- the terms behind the first
 abbrev pub behind_text : Poly → List ℕ
@@ -34,23 +31,19 @@ abbrev pub poly_text : Poly → List ℕ
 poly_text [] = codes "0"
 poly_text (t ∷ f) = term_text t ++ behind_text f
 
-abbrev pub says_yes : Option Bool → Bool
-says_yes None = false
-says_yes (Some b) = b
+-- variable v is multiplicative for row k
+abbrev pub is_multiplicative : Split → List (List ℕ) → ℕ → ℕ → Bool
+is_multiplicative D U k v = unwrap_or (D U k v) false
 
--- one variable, where it is told, with a comma before it where one stands before it
-abbrev pub variable_text : Bool → Bool → ℕ → List ℕ
-variable_text told started v = cond told (cond started (codes ", ") [] ++ (codes "x" ++ decimal v)) []
-
--- those of r variables from v on that pass the test
-abbrev pub variables_text : (ℕ → Bool) → ℕ → Bool → ℕ → List ℕ
-variables_text test v started zero = []
-variables_text test v started (suc r) = variable_text (test v) started v ++ variables_text test (suc v) (test v || started) r
+-- those of r variables from v on that pass the test: the mark stands before the first, and a comma before each further one
+abbrev pub variables_text : (ℕ → Bool) → ℕ → List ℕ → ℕ → List ℕ
+variables_text test v mark zero = []
+variables_text test v mark (suc r) = cond (test v) (mark ++ (codes "x" ++ (decimal v ++ variables_text test (suc v) (codes ", ") r))) (variables_text test (suc v) mark r)
 
 -- row k with its multiplicative variables, as 2: x1 + 2*x2 {x1, x2}
 abbrev pub row_text : Split → List (List ℕ) → ℕ → ℕ → Poly → List ℕ
 row_text D U n k f =
-    decimal k ++ (codes ": " ++ (poly_text f ++ (codes " {" ++ (variables_text (λ v. says_yes (D U k v)) 1 false n ++ codes "}\n"))))
+    decimal k ++ (codes ": " ++ (poly_text f ++ (codes " {" ++ (variables_text (is_multiplicative D U k) 1 [] n ++ codes "}\n"))))
 
 -- the rows from number k on
 abbrev pub rows_text : Split → List (List ℕ) → ℕ → ℕ → List Poly → List ℕ

@@ -1,8 +1,8 @@
 // A table as people write it.
-ghost use Rattle.std.specs.Prelude.{◌≡◌, ◌++◌, [], false, cond, codes, length, Some as the, vec_items};
+ghost use Rattle.std.specs.Prelude.{◌≡◌, ◌++◌, [], codes, length, Some as the, vec_items};
 ghost use Rattle.monomial.specs.Lists.{exponents_of};
 ghost use Rattle.stored.specs.Rows.{polys};
-ghost use Rattle.stored.specs.Text.{factor_text, powers_text, has_coefficient as shows_coefficient, term_text, poly_text, variable_text, variables_text, says_yes, row_text, rows_text, order_text, division_text, setting_text};
+ghost use Rattle.stored.specs.Text.{power_text, powers_text, has_coefficient as shows_coefficient, term_text, poly_text, is_multiplicative, variables_text, row_text, rows_text, order_text, division_text, setting_text};
 
 use crate::row::Row;
 use choice::operands::Operands;
@@ -20,55 +20,57 @@ pub(crate) struct Table<'a, D> {
     pub(crate) rows: &'a [Row],
 }
 
-// The mark that parts what follows from what stands before it, where something does.
-fn part(mark: &'static str, started: bool) -> &'static str
-    ensures { result.now ≡ cond started mark.now [] }
-{
-    if started { mark } else { "" }
+impl<D: Division> Table<'_, D> {
+    // Whether the variable is multiplicative for the row, each told by its number.
+    fn is_multiplicative(&self, row: usize, variable: usize) -> bool
+        ensures { result ≡ is_multiplicative (D.Division.meaning self.now.division.now) (exponents_of self.now.leaders.now) row variable }
+    {
+        self.division
+            .multiplicative(self.leaders, row, variable)
+            .unwrap_or(false)
+    }
 }
 
-// One power of a monomial, with a star before it where something stands before it: x2, or x2^3; nothing at exponent 0.
+// One power of a monomial: x2, or x2^3.
 #[derive(Clone, Copy)]
-struct Factor {
+struct Power {
     variable: usize,
-    started: bool,
     exponent: u8,
 }
 
-impl fmt::Display for Factor {
-    ghost output = { λ factor. the (factor_text factor.variable factor.started factor.exponent) };
+impl fmt::Display for Power {
+    ghost output = { λ power. the (power_text power.variable power.exponent) };
 
     fn fmt<W: fmt::Write>(&self, f: &mut fmt::Formatter<W>) -> fmt::Result {
-        let star = part("*", self.started);
         let variable = self.variable;
         match self.exponent {
-            0 => Ok(()),
-            1 => write!(f, "{star}x{variable}"),
-            exponent => write!(f, "{star}x{variable}^{exponent}"),
+            1 => write!(f, "x{variable}"),
+            exponent => write!(f, "x{variable}^{exponent}"),
         }
     }
 }
 
-// The powers of a monomial by its exponents, where something stands before them or nothing does.
+// The powers of a monomial by its exponents; the mark parts the first from what stands before it.
 #[derive(Clone, Copy)]
 struct Powers<'a> {
+    mark: &'static str,
     exponents: &'a [u8],
-    started: bool,
 }
 
 impl fmt::Display for Powers<'_> {
-    ghost output = { λ powers. the (powers_text 1 powers.started powers.exponents.now) };
+    ghost output = { λ powers. the (powers_text 1 powers.mark.now powers.exponents.now) };
 
     fn fmt<W: fmt::Write>(&self, f: &mut fmt::Formatter<W>) -> fmt::Result {
-        let mut started = self.started;
+        let mut mark = self.mark;
         for (i, exponent) in self.exponents.iter().enumerate() {
-            let factor = Factor {
-                variable: i + 1,
-                started,
-                exponent: *exponent,
-            };
-            write!(f, "{factor}")?;
-            started |= *exponent > 0;
+            if *exponent > 0 {
+                let power = Power {
+                    variable: i + 1,
+                    exponent: *exponent,
+                };
+                write!(f, "{mark}{power}")?;
+                mark = "*";
+            }
         }
         Ok(())
     }
@@ -90,14 +92,18 @@ impl fmt::Display for Written<'_> {
 
     fn fmt<W: fmt::Write>(&self, f: &mut fmt::Formatter<W>) -> fmt::Result {
         let coefficient = self.0.coefficient;
-        let started = has_coefficient(self.0);
-        let powers = Powers {
-            exponents: &self.0.monomial.exponents,
-            started,
-        };
-        if started {
+        let exponents = &self.0.monomial.exponents;
+        if has_coefficient(self.0) {
+            let powers = Powers {
+                mark: "*",
+                exponents,
+            };
             write!(f, "{coefficient}{powers}")
         } else {
+            let powers = Powers {
+                mark: "",
+                exponents,
+            };
             write!(f, "{powers}")
         }
     }
@@ -122,27 +128,6 @@ impl fmt::Display for Sum<'_> {
     }
 }
 
-// One variable, where it is told, with a comma before it where one stands before it.
-#[derive(Clone, Copy)]
-struct Variable {
-    told: bool,
-    started: bool,
-    number: usize,
-}
-
-impl fmt::Display for Variable {
-    ghost output = { λ x. the (variable_text x.told x.started x.number) };
-
-    fn fmt<W: fmt::Write>(&self, f: &mut fmt::Formatter<W>) -> fmt::Result {
-        if !self.told {
-            return Ok(());
-        }
-        let comma = part(", ", self.started);
-        let number = self.number;
-        write!(f, "{comma}x{number}")
-    }
-}
-
 // The multiplicative variables of a row.
 #[derive(Clone, Copy)]
 struct Variables<'t, 'a, D> {
@@ -151,27 +136,15 @@ struct Variables<'t, 'a, D> {
 }
 
 impl<D: Division> fmt::Display for Variables<'_, '_, D> {
-    ghost output = { λ x. the (variables_text (λ v. says_yes (D.Division.meaning x.table.now.division.now (exponents_of x.table.now.leaders.now) x.row v)) 1 false x.table.now.operands.variables) };
+    ghost output = { λ x. the (variables_text (is_multiplicative (D.Division.meaning x.table.now.division.now) (exponents_of x.table.now.leaders.now) x.row) 1 [] x.table.now.operands.variables) };
 
     fn fmt<W: fmt::Write>(&self, f: &mut fmt::Formatter<W>) -> fmt::Result {
-        let Table {
-            operands,
-            division,
-            leaders,
-            ..
-        } = self.table;
-        let mut started = false;
-        for number in 1..=usize::from(operands.variables) {
-            let told = division
-                .multiplicative(leaders, self.row, number)
-                .unwrap_or(false);
-            let variable = Variable {
-                told,
-                started,
-                number,
-            };
-            write!(f, "{variable}")?;
-            started |= told;
+        let mut mark = "";
+        for number in 1..=usize::from(self.table.operands.variables) {
+            if self.table.is_multiplicative(self.row, number) {
+                write!(f, "{mark}x{number}")?;
+                mark = ", ";
+            }
         }
         Ok(())
     }

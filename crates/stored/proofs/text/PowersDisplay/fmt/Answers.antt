@@ -1,22 +1,19 @@
-use Rattle.std.proofs.Common.{suc, ◌+◌, get_or, refl, rules}
-use Rattle.std.proofs.lemmas.List.{at_drop_all}
-use Rattle.stored.specs.Text.{factor_text, powers_text}
-use Rattle.stored.proofs.Texts.{powers_from}
-use Rattle.stored.proofs.Writing.{nothing_yet, one_more, all_written}
+use Rattle.std.proofs.Common.{rules}
+use Rattle.stored.proofs.Texts.{power_skipped, power_written}
 use Rattle.stored.proofs.text.PowersDisplay.fmt.Goals as goal
-
-pub loop-i-init : goal.loop-i-init
-loop-i-init g c = λ p. nothing_yet p refl
+use Rattle.stored.proofs.text.PowersDisplay.fmt.Goals.{then-exponent-gt0+in_ok-write, else-exponent-gt0}
 
 pub loop-i-preserved : goal.loop-i-preserved
-loop-i-preserved g c = λ p.
-    let left = c.loop-i.invariant p in
-    let plain = left.written.plain in
-    let m = c.args.self.now.exponents.now in
-    let i = c.loop-i.i in
-    let s = c.loop-i.started in
-    one_more (factor_text (i + 1) s (get_or m i 0)) (powers_from m i s c.loop-i-test.true) left (search rules)
-
-pub returns-clause-writes : goal.returns-clause-writes
-returns-clause-writes g c = λ p ok.
-    all_written (at_drop_all (powers_text (suc c.loop-i.i) c.loop-i.started) c.args.self.now.exponents.now c.loop-i.i c.loop-i-test.false) (c.loop-i.invariant p)
+loop-i-preserved g c = record {
+  utf8 = elim c.if-exponent-gt0.branch [ then-exponent-gt0+in_ok-write w ↦ search rules | else-exponent-gt0 w ↦ search rules ];
+  left = λ p.
+      let m = c.args.self.now.exponents.now in
+      let i = c.loop-i.i in
+      let mark = c.loop-i.mark.now in
+      let left = c.loop-i.invariant.left p in
+      let plain = left.written.plain in
+      elim c.if-exponent-gt0.branch [
+        | then-exponent-gt0+in_ok-write w ↦ rw (w.mark-is, w.f-is) (power_written m i mark c.loop-i-test.true w.if-exponent-gt0.true left (search rules))
+        | else-exponent-gt0 w ↦ rw (w.mark-is, w.f-is) (power_skipped m i mark c.loop-i-test.true w.if-exponent-gt0.false left)
+      ];
+}
