@@ -1,5 +1,5 @@
 -- What each command comes to, from the sheet's answer and the text that was written.
-use Rattle.std.proofs.Common.{◌≡◌, ℕ, ◌≤◌, List, [], ◌∷◌, ◌++◌, length, get_or, IfOk, Ok, Err, Option, Result, sym, refl, ap, ◌∙◌, subst, append-nil, Bor}
+use Rattle.std.proofs.Common.{◌≡◌, ℕ, ◌≤◌, List, [], ◌∷◌, ◌++◌, length, get_or, IfOk, Ok, Err, Option, Result, sym, ap, ◌∙◌, subst, append-nil, Bor}
 use Rattle.involutive.specs.Reduction.{Refusal}
 use Rattle.replay.specs.declared.command.Command.{Command}
 use Rattle.replay.specs.declared.command.Command.TheVariants.{Term as CommandTerm}
