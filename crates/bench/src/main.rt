@@ -51,6 +51,7 @@ fn check_problem(rt: &HostRuntime, name: &str) -> anyhow::Result<bool> {
     Ok(false)
 }
 
+// Two counts, as in the program that runs the stored cases: a library for them would be no plainer.
 fn check_all(rt: &HostRuntime, names: &str) -> anyhow::Result<()> {
     let mut good: u64 = 0;
     let mut bad: u64 = 0;

@@ -81,7 +81,7 @@ fn choose_order<T: Task, F: Field + Copy + Drop>(
     }
 }
 
-// The same, where all but the division is known.
+// The same, where all but the division is known: here field and order become a ring.
 fn choose_division<T: Task, F: Field + Copy + Drop, O: Order + Copy + Drop>(
     operands: Operands,
     task: T,

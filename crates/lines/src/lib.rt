@@ -12,7 +12,7 @@ use std::fmt;
 use std::io::Write;
 
 // What a line has behind its four fields.
-#[derive(Clone, Copy)]
+#[derive(Clone, Copy, PartialEq, Eq, Debug)]
 pub enum More<'a> {
     Nothing,
     // a number more
@@ -24,7 +24,7 @@ pub enum More<'a> {
 }
 
 // An answer line.
-#[derive(Clone, Copy)]
+#[derive(Clone, Copy, PartialEq, Eq, Debug)]
 pub struct Line<'a> {
     // the offset of the command
     pub at: usize,

@@ -151,6 +151,8 @@ impl Replay {
         judged(at, answer).write_to(&mut self.text)
     }
 
+    // What the command at that offset comes to. The sheet and the offset go on side by side: nothing is true of the two
+    // together, and each command takes them apart.
     fn act<C: Calls>(
         &mut self,
         sheet: &mut C,

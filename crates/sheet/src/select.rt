@@ -1,6 +1,8 @@
 // The rows that a fair copy has: those whose leading monomial no other row's divides, in rising order.
 //
-// Rows count from 1 here, as in the answers. The contracts speak of the leading monomials that stand beside the rows.
+// Rows count from 1 here, as in the answers. The contracts speak of the leading monomials that stand beside the rows. That a
+// number is a row's is said in each: it is a fact of the number and the rows together, and a type of both would be taken
+// apart in each function, while the list that is kept has numbers alone.
 ghost use Rattle.std.specs.Prelude.{◌≡◌, ℕ, ◌≤◌, map, length, vec_len, vec_capacity, Decides};
 ghost use mathlib.Core.List.{Memᴰ};
 ghost use Rattle.std.specs.List.{insert};
