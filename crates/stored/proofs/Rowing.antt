@@ -23,7 +23,7 @@ use Rattle.stored.specs.Record.{ReadsRecord, file_length}
 use Rattle.stored.specs.Stored.{Outcome, bad, Reads, row, no_row, no_record, among, behind, leading_fault, after_checks, row_fault}
 use Rattle.stored.specs.Rows.{polys, Fails}
 
-pub among_any : (m : List ℕ) (rs : List Row) → list_any (λ r. same (leading (vec_items r.terms)) m) rs ≡ among m (map leading (polys rs))
+pub among_any : (m : List ℕ) (rs : List Row) → among m (map leading (polys rs)) ≡ list_any (λ r. same (leading (vec_items r.terms)) m) rs
 among_any m [] = refl
 among_any m (r ∷ rs) = ap (λ b. same (leading (vec_items r.terms)) m || b) (among_any m rs)
 

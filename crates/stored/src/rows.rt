@@ -1,9 +1,7 @@
 // The rows of a stored table: its records, each checked behind those before it.
 ghost use Rattle.std.specs.Prelude.{◌≡◌, ◌+◌, ◌^◌, ◌<◌, [], map, vec_items};
-ghost use Rattle.std.specs.List.{list_any};
-ghost use Rattle.monomial.specs.Monomial.{same};
 ghost use Rattle.polynomial.specs.Polynomial.{leading};
-ghost use Rattle.stored.specs.Stored.{behind, leading_fault, row_fault, Reads};
+ghost use Rattle.stored.specs.Stored.{among, behind, leading_fault, row_fault, Reads};
 ghost use Rattle.stored.specs.Record.{file_length};
 ghost use Rattle.stored.specs.Rows.{IsFine, IsRow, ReadsRow, ReadsRows, polys};
 
@@ -22,7 +20,7 @@ use std::alloc::Global;
 
 // Whether a row leads with the monomial.
 fn has_leader(rows: &[Row], monomial: &Monomial) -> bool
-    ensures { result ≡ list_any (λ row. same (leading (vec_items row.terms)) monomial.now.exponents) rows.now }
+    ensures { result ≡ among monomial.now.exponents (map leading (polys rows.now)) }
 {
     rows.iter().any(|row| row.leader().is_same(monomial))
 }
