@@ -1,5 +1,5 @@
 -- The rows of a stored table, one behind the other.
-use Rattle.std.proofs.Common.{◌≡◌, ℕ, suc, ◌+◌, ◌-◌, ◌<◌, ◌≤◌, Bool, true, false, cond, ◌||◌, eqb, ltb, ◌⊎◌, List, [], ◌∷◌, ◌++◌, map, length, Some, None, Err, vec_items, Option, sym, refl, ap, ◌∙◌, subst, inl, inr, arith, length-append}
+use Rattle.std.proofs.Common.{◌≡◌, ℕ, suc, ◌+◌, ◌-◌, ◌^◌, ◌<◌, ◌≤◌, Bool, true, false, cond, ◌||◌, eqb, ltb, ◌⊎◌, List, [], ◌∷◌, ◌++◌, map, length, Some, None, Ok, Err, vec_items, Option, sym, refl, ap, ◌∙◌, subst, inl, inr, arith, length-append}
 use Rattle.std.specs.List.{list_any}
 use Rattle.std.proofs.lemmas.Bool.{cases_lt}
 use Rattle.field.specs.Field.{FieldMeaning}
@@ -20,10 +20,10 @@ use Rattle.stored.specs.declared.fault.Fault.{Fault}
 use Rattle.stored.specs.declared.fault.Fault.TheVariants.{Bad, Memory}
 use Rattle.stored.specs.declared.rest.Rest.{Rest}
 use Rattle.stored.specs.Record.{ReadsRecord, file_length}
-use Rattle.stored.specs.Stored.{Outcome, bad, Reads, row, no_row, no_record, among, behind, leading_fault, after_checks, row_fault}
-use Rattle.stored.specs.Rows.{polys, Fails}
+use Rattle.stored.specs.Stored.{bad, Reads, row, no_row, no_record, among, behind, leading_fault, after_checks, row_fault}
+use Rattle.stored.specs.Rows.{polys, ChecksRow, Fails, IsFound}
 
-pub among_any : (m : List ℕ) (rs : List Row) → list_any (λ r. same (leading (vec_items r.terms)) m) rs ≡ among m (map leading (polys rs))
+pub among_any : (m : List ℕ) (rs : List Row) → among m (map leading (polys rs)) ≡ list_any (λ r. same (leading (vec_items r.terms)) m) rs
 among_any m [] = refl
 among_any m (r ∷ rs) = ap (λ b. same (leading (vec_items r.terms)) m || b) (among_any m rs)
 
@@ -71,26 +71,29 @@ module _ (F : FieldMeaning) (O : Compare) (n : ℕ) where
       go true None p h = lead f h
       go true (Some r) p h = let z : why ≡ Refused r = cc in subst (λ w. behind w ≤ 351) (sym z) (omega (arith, fault_place f r p))
 
--- a record that holds a row
-pub row_shorter : (bytes more : List ℕ) (f : Poly) → IsRun bytes f (2 ∷ more) → length more < length bytes
-row_shorter bytes more f h = omega (arith, ap length h.written, length-append (poly_bytes f) (2 ∷ more))
-
-pub row_comes : (F : FieldMeaning) (O : Compare) (n total : ℕ) (done : List Poly) (bytes more : List ℕ) (f g : Poly) → g ≡ f → IsRun bytes f (2 ∷ more) → row_fault F O n (map leading done) f ≡ None →
-    (o : Outcome) → Reads F O n total (done ++ (g ∷ [])) more o → Reads F O n total done bytes o
-row_comes F O n total done bytes more f g e h k o r = row h k (subst (λ x. Reads F O n total (done ++ (x ∷ [])) more o) e r)
-
--- a record that is none, or holds no row
+-- a record behind the rows before it
 module _ (F : FieldMeaning) (O : Compare) (n : ℕ) (done : List Poly) (rest : Rest) where
-  bad_at : (why : Reason) (at k : ℕ) → at ≡ rest.offset + k → Reads F O n (file_length rest) done rest.bytes.now (bad why ((file_length rest - length rest.bytes.now) + k)) →
-      Reads F O n (file_length rest) done rest.bytes.now (bad why at)
-  bad_at why at k e h =
-      let z : (file_length rest - length rest.bytes.now) + k ≡ at = omega (arith, e) in
+  bad_at : (why : Reason) (k : ℕ) → Reads F O n (file_length rest) done rest.bytes.now (bad why ((file_length rest - length rest.bytes.now) + k)) → Reads F O n (file_length rest) done rest.bytes.now (bad why (rest.offset + k))
+  bad_at why k h =
+      let z : (file_length rest - length rest.bytes.now) + k ≡ rest.offset + k = omega arith in
       subst (λ x. Reads F O n (file_length rest) done rest.bytes.now (bad why x)) z h
 
+  -- that is none
   pub record_fails : (e : Fault) → 0 < length rest.bytes.now → ReadsRecord rest (Err e) → Fails (Reads F O n (file_length rest) done rest.bytes.now) e
-  record_fails (Bad why at) some h = bad_at why at h.0 h.1 (no_record some h.2)
+  record_fails (Bad why at) some h = subst (λ x. Reads F O n (file_length rest) done rest.bytes.now (bad why x)) (sym h.1) (bad_at why h.0 (no_record some h.2))
   record_fails Memory some h = tt
 
-  pub row_fails : (why : Reason) (at : ℕ) (f : Poly) (more : List ℕ) → at ≡ rest.offset + behind why → IsRun rest.bytes.now f (2 ∷ more) → row_fault F O n (map leading done) f ≡ Some why →
-      Reads F O n (file_length rest) done rest.bytes.now (bad why at)
-  row_fails why at f more e h k = bad_at why at (behind why) e (no_row h k)
+  -- whose polynomial f is checked
+  module _ (f : Poly) where
+    pub fault_within : (why : Reason) → ChecksRow F O n done f (Err why) → rest.offset + behind why < 2 ^ 64
+    fault_within why h = omega (arith, rest.in_file, behind_small F O n (map leading done) f why h)
+
+    pub row_fails : (why : Reason) {more : List ℕ} → IsRun rest.bytes.now f (2 ∷ more) → ChecksRow F O n done f (Err why) → Reads F O n (file_length rest) done rest.bytes.now (bad why (rest.offset + behind why))
+    row_fails why run h = bad_at why (behind why) (no_row run h)
+
+    pub row_found : (r : Row) (left : Rest) → IsRun rest.bytes.now f (2 ∷ left.bytes.now) → file_length left ≡ file_length rest → ChecksRow F O n done f (Ok r) → IsFound F O n done rest r left
+    row_found r left run file h = record {
+      comes = λ o q. row run h.0 (subst (λ x. Reads F O n (file_length rest) (done ++ (x ∷ [])) left.bytes.now o) h.1 q);
+      file = file;
+      shorter = omega (arith, ap length run.written, length-append (poly_bytes f) (2 ∷ left.bytes.now));
+    }

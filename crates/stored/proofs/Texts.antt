@@ -40,14 +40,14 @@ poly_pieces (t ∷ f) d h = refl
 
 -- the variables from number k on, where that one passes, where it does not, and where it is past the last
 module _ {W : Type 0} {took : W → List ℕ → W → Type 0} {f g : Formatter W} {whole : List ℕ} (test : ℕ → Bool) (n k : ℕ) (mark : List ℕ) where
-  pub variable_skipped : k ≤ n → test k ≡ false → HasLeft took f whole (variables_text test k mark (suc n - k)) g → HasLeft took f whole (variables_text test (k + 1) mark (suc n - (k + 1))) g
+  pub variable_skipped : k ≤ n → false ≡ test k → HasLeft took f whole (variables_text test k mark (suc n - k)) g → HasLeft took f whole (variables_text test (k + 1) mark (suc n - (k + 1))) g
   variable_skipped h p left =
-      let e : suc n - k ≡ suc (suc n - (k + 1)) = omega arith in no_more (rw (e, p, add-one k)) left
+      let e : suc n - k ≡ suc (suc n - (k + 1)) = omega arith in no_more (rw (e, ← p, add-one k)) left
 
-  pub variable_written : {g' : Formatter W} → k ≤ n → test k ≡ true → HasLeft took f whole (variables_text test k mark (suc n - k)) g → HasWritten took g (mark ++ (codes "x" ++ decimal k)) g' →
+  pub variable_written : {g' : Formatter W} → k ≤ n → true ≡ test k → HasLeft took f whole (variables_text test k mark (suc n - k)) g → HasWritten took g (mark ++ (codes "x" ++ decimal k)) g' →
       HasLeft took f whole (variables_text test (k + 1) (codes ", ") (suc n - (k + 1))) g'
   variable_written h p left w =
-      let e : suc n - k ≡ suc (suc n - (k + 1)) = omega arith in one_more (mark ++ (codes "x" ++ decimal k)) (rw (e, p, add-one k) (simp append_assoc)) left w
+      let e : suc n - k ≡ suc (suc n - (k + 1)) = omega arith in one_more (mark ++ (codes "x" ++ decimal k)) (rw (e, ← p, add-one k) (simp append_assoc)) left w
 
   pub variables_written : n < k → HasLeft took f whole (variables_text test k mark (suc n - k)) g → HasWritten took f whole g
   variables_written h left = let e : suc n - k ≡ 0 = omega arith in all_written (ap (variables_text test k mark) e) left

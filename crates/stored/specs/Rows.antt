@@ -3,14 +3,14 @@ use Rattle.std.specs.Prelude.{◌≡◌, ℕ, ◌<◌, List, [], ◌∷◌, ◌+
 use Rattle.std.specs.declared.alloc.Global.{Global}
 use Rattle.field.specs.Field.{FieldMeaning}
 use Rattle.monomial.specs.Order.{Compare}
-use Rattle.polynomial.specs.Polynomial.{Poly}
+use Rattle.polynomial.specs.Polynomial.{Poly, leading}
 use Rattle.stored.specs.declared.fault.Fault.{Fault}
 use Rattle.stored.specs.declared.fault.Fault.TheVariants.{Bad, Memory}
 use Rattle.stored.specs.declared.fault.Reason.{Reason}
 use Rattle.stored.specs.declared.rest.Rest.{Rest}
 use Rattle.stored.specs.declared.row.Row.{Row}
 use Rattle.stored.specs.Record.{file_length}
-use Rattle.stored.specs.Stored.{Outcome, rows, bad, Reads}
+use Rattle.stored.specs.Stored.{Outcome, rows, bad, row_fault, Reads}
 
 -- the polynomials that the rows own
 abbrev pub polys : List Row → List Poly
@@ -21,17 +21,17 @@ abbrev pub IsFine : Option Reason → Result (Unit {0}) Reason → Type 0
 IsFine o (Ok x) = o ≡ None
 IsFine o (Err why) = o ≡ Some why
 
--- the answer to the fault of a row, or the row where there is none
-abbrev pub IsRow : Option Reason → Poly → Result Row Reason → Type 0
-IsRow o f (Ok r) = (o ≡ None) × (vec_items r.terms ≡ f)
-IsRow o f (Err why) = o ≡ Some why
-
 -- a fault that reading comes to; want of memory says nothing
 abbrev pub Fails : (Outcome → Type 0) → Fault → Type 0
 Fails comes (Bad why at) = comes (bad why at)
 Fails comes Memory = Unit {0}
 
 module _ (F : FieldMeaning) (O : Compare) (n : ℕ) where
+  -- the row that a polynomial is behind the rows before it, or why it is none
+  abbrev pub ChecksRow : List Poly → Poly → Result Row Reason → Type 0
+  ChecksRow before f (Ok row) = (row_fault F O n (map leading before) f ≡ None) × (vec_items row.terms ≡ f)
+  ChecksRow before f (Err why) = row_fault F O n (map leading before) f ≡ Some why
+
   -- the row stands at the front: what the file comes to behind it, it comes to here
   pub record IsFound (before : List Poly) (rest : Rest) (row : Row) (behind : Rest) : Type 0 where
     pub comes : (o : Outcome) → Reads F O n (file_length rest) (before ++ (vec_items row.terms ∷ [])) behind.bytes.now o → Reads F O n (file_length rest) before rest.bytes.now o

@@ -1,11 +1,9 @@
 // The rows of a stored table: its records, each checked behind those before it.
 ghost use Rattle.std.specs.Prelude.{◌≡◌, ◌+◌, ◌^◌, ◌<◌, [], map, vec_items};
-ghost use Rattle.std.specs.List.{list_any};
-ghost use Rattle.monomial.specs.Monomial.{same};
 ghost use Rattle.polynomial.specs.Polynomial.{leading};
-ghost use Rattle.stored.specs.Stored.{behind, leading_fault, row_fault, Reads};
+ghost use Rattle.stored.specs.Stored.{among, behind, leading_fault, Reads};
 ghost use Rattle.stored.specs.Record.{file_length};
-ghost use Rattle.stored.specs.Rows.{IsFine, IsRow, ReadsRow, ReadsRows, polys};
+ghost use Rattle.stored.specs.Rows.{IsFine, ChecksRow, ReadsRow, ReadsRows, polys};
 
 use crate::fault::{Fault, Reason};
 use crate::record::read_record;
@@ -22,7 +20,7 @@ use std::alloc::Global;
 
 // Whether a row leads with the monomial.
 fn has_leader(rows: &[Row], monomial: &Monomial) -> bool
-    ensures { result ≡ list_any (λ row. same (leading (vec_items row.terms)) monomial.now.exponents) rows.now }
+    ensures { result ≡ among monomial.now.exponents (map leading (polys rows.now)) }
 {
     rows.iter().any(|row| row.leader().is_same(monomial))
 }
@@ -47,7 +45,7 @@ fn check_row<F: Field, O: Order>(
     before: &[Row],
     terms: Vec<Term>,
 ) -> Result<Row, Reason>
-    ensures { IsRow (row_fault (F.Field.meaning ring.now.field) (O.Order.meaning ring.now.order) ring.now.variables (map leading (polys before.now)) terms.items) terms.items result }
+    ensures { ChecksRow (F.Field.meaning ring.now.field) (O.Order.meaning ring.now.order) ring.now.variables (polys before.now) terms.items result }
 {
     if before.len() >= MOST_ROWS {
         return Err(Reason::TooManyRows);

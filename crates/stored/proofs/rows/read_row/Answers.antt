@@ -1,12 +1,10 @@
-use Rattle.std.proofs.Common.{◌≡◌, ◌+◌, ◌^◌, ◌<◌, length, map, Err, vec_items, sym, refl, subst, arith, rules}
+use Rattle.std.proofs.Common.{◌≡◌, ◌+◌, ◌<◌, length, Err, vec_items, sym, subst, arith, rules}
 use borrow.Author.Tests.{eqb-false}
-use Rattle.polynomial.specs.Polynomial.{leading}
 use Rattle.stored.specs.declared.fault.Fault.TheVariants.{Bad}
-use Rattle.stored.specs.Record.{file_length}
-use Rattle.stored.specs.Rows.{polys, IsRow, ReadsRow}
-use Rattle.stored.specs.Stored.{behind, row_fault}
+use Rattle.stored.specs.Rows.{polys, ChecksRow, ReadsRow}
+use Rattle.stored.specs.Stored.{behind}
 use Rattle.stored.proofs.Errors.{is_that_error, kept, renamed}
-use Rattle.stored.proofs.Rowing.{behind_small, record_fails, row_comes, row_fails, row_shorter}
+use Rattle.stored.proofs.Rowing.{fault_within, record_fails, row_fails, row_found}
 use Rattle.stored.proofs.rows.read_row.Goals as goal
 
 pub returns-in_err-terms : goal.returns-in_err-terms
@@ -25,8 +23,7 @@ map_err-requires g c = λ why is.
     let n = c.args.ring.now.variables in
     let before = polys c.args.before.now in
     let f = vec_items c.in_ok-terms.terms in
-    let bad = subst (IsRow (row_fault F O n (map leading before) f) f) is c.check_row.ensures in
-    let small : c.args.rest.offset + behind why < 2 ^ 64 = omega (arith, c.args.rest.in_file, behind_small F O n (map leading before) f why bad) in
+    let within = fault_within F O n before c.args.rest f why (subst (ChecksRow F O n before f) is c.check_row.ensures) in
     search rules
 
 pub returns-in_err-row : goal.returns-in_err-row
@@ -36,10 +33,10 @@ returns-in_err-row g c =
     let n = c.args.ring.now.variables in
     let before = polys c.args.before.now in
     let f = vec_items c.in_ok-terms.terms in
-    let (why, bad, told) = renamed (IsRow (row_fault F O n (map leading before) f) f) _ _ _ c.map_err.ensures.cases c.check_row.ensures c.in_err-row.was in
+    let (why, bad, told) = renamed (ChecksRow F O n before f) _ _ _ c.map_err.ensures.cases c.check_row.ensures c.in_err-row.was in
     let e : c.in_err-row.field-0.0 ≡ Bad why (c.args.rest.offset + behind why) = search rules in
     is_that_error (ReadsRow F O n before c.args.rest) c.from_residual-in_err-row.result _ c.from_residual-in_err-row.ensures.1
-    (subst (λ x. ReadsRow F O n before c.args.rest (Err x)) (sym e) (row_fails F O n before c.args.rest why _ _ _ refl c.in_ok-terms.ensures.0 bad))
+    (subst (λ x. ReadsRow F O n before c.args.rest (Err x)) (sym e) (row_fails F O n before c.args.rest f why c.in_ok-terms.ensures.0 bad))
 
 pub returns : goal.returns
 returns g c =
@@ -48,10 +45,5 @@ returns g c =
     let n = c.args.ring.now.variables in
     let before = polys c.args.before.now in
     let f = vec_items c.in_ok-terms.terms in
-    let h = c.in_ok-terms.ensures in
-    let (fine, same) = kept (IsRow (row_fault F O n (map leading before) f) f) _ _ _ c.map_err.ensures.cases c.check_row.ensures c.in_ok-row.was in
-    record {
-      comes = row_comes F O n (file_length c.args.rest) before c.args.rest.bytes.now _ _ _ same h.0 fine;
-      file = h.1;
-      shorter = row_shorter c.args.rest.bytes.now _ _ h.0;
-    }
+    let (run, file) = c.in_ok-terms.ensures in
+    row_found F O n before c.args.rest f _ _ run file (kept (ChecksRow F O n before f) _ _ _ c.map_err.ensures.cases c.check_row.ensures c.in_ok-row.was)

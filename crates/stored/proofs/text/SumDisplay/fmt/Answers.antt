@@ -1,15 +1,12 @@
-use Rattle.std.proofs.Common.{◌-◌, ◌<◌, [], ◌++◌, length, get_or, take, drop, codes, refl, sym, ap, ◌∙◌, arith, rules, ltb-false}
+use Rattle.std.proofs.Common.{◌-◌, ◌<◌, [], ◌++◌, length, get_or, take, drop, codes, sym, ap, ◌∙◌, arith, rules, ltb-false}
 use Rattle.std.proofs.Output.{has_written_append, has_written_of_eq}
 use Rattle.std.proofs.lemmas.List.{at_drop_all, take_rest}
 use Rattle.std.specs.Fmt.{HasWritten}
 use Rattle.polynomial.specs.Polynomial.{term}
 use Rattle.stored.specs.Text.{term_text, behind_text}
 use Rattle.stored.proofs.Texts.{behind_from, poly_pieces}
-use Rattle.stored.proofs.Writing.{nothing_yet, one_more, all_written}
+use Rattle.stored.proofs.Writing.{one_more, all_written}
 use Rattle.stored.proofs.text.SumDisplay.fmt.Goals as goal
-
-pub loop-term-init : goal.loop-term-init
-loop-term-init g c = λ p. nothing_yet p refl
 
 pub loop-term-preserved : goal.loop-term-preserved
 loop-term-preserved g c = λ p.

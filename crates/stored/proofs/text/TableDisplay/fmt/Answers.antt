@@ -1,4 +1,4 @@
-use Rattle.std.proofs.Common.{suc, ◌+◌, length, vec_items, refl, rules}
+use Rattle.std.proofs.Common.{suc, ◌+◌, length, vec_items, rules}
 use Rattle.std.proofs.Output.{has_written_append}
 use Rattle.std.proofs.lemmas.List.{at_drop_all}
 use Rattle.std.specs.Fmt.{HasWritten}
@@ -6,11 +6,8 @@ use Rattle.monomial.specs.Lists.{exponents_of}
 use Rattle.stored.specs.Rows.{polys}
 use Rattle.stored.specs.Text.{row_text, rows_text, setting_text}
 use Rattle.stored.proofs.Texts.{rows_from}
-use Rattle.stored.proofs.Writing.{nothing_yet, one_more, all_written}
+use Rattle.stored.proofs.Writing.{one_more, all_written}
 use Rattle.stored.proofs.text.TableDisplay.fmt.Goals as goal
-
-pub loop-i-init : goal.loop-i-init
-loop-i-init g c = λ p. nothing_yet p refl
 
 pub loop-i-preserved : goal.loop-i-preserved
 loop-i-preserved g c = λ p.

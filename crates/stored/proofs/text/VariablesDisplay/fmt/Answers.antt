@@ -1,4 +1,4 @@
-use Rattle.std.proofs.Common.{◌≡◌, suc, ◌+◌, ◌-◌, ◌<◌, ◌≤◌, [], codes, ap, sym, arith, rules}
+use Rattle.std.proofs.Common.{◌≡◌, suc, ◌+◌, ◌-◌, ◌<◌, ◌≤◌, [], codes, ap, arith, rules}
 use Rattle.monomial.specs.Lists.{exponents_of}
 use Rattle.stored.specs.Text.{is_multiplicative, variables_text}
 use Rattle.stored.proofs.Texts.{variable_skipped, variable_written, variables_written}
@@ -30,8 +30,8 @@ loop-number-preserved g c = record {
       let left = c.loop-number.invariant.left p in
       let plain = left.written.plain in
       elim c.if-is_multiplicative.branch [
-        | then-is_multiplicative+in_ok-write w ↦ rw (w.mark-is, w.f-is) (variable_written test n k mark h (sym w.if-is_multiplicative.ensures) left (search rules))
-        | else-is_multiplicative w ↦ rw (w.mark-is, w.f-is) (variable_skipped test n k mark h (sym w.if-is_multiplicative.ensures) left)
+        | then-is_multiplicative+in_ok-write w ↦ rw (w.mark-is, w.f-is) (variable_written test n k mark h w.if-is_multiplicative.ensures left (search rules))
+        | else-is_multiplicative w ↦ rw (w.mark-is, w.f-is) (variable_skipped test n k mark h w.if-is_multiplicative.ensures left)
       ];
 }
 
@@ -47,6 +47,6 @@ returns-after-is_multiplicative-clause-writes g c = λ p ok.
     let left = c.loop-number.invariant.left p in
     let plain = left.written.plain in
     elim c.if-is_multiplicative.branch [
-      | then-is_multiplicative+in_ok-write w ↦ rw w.f-is (variables_written test n (k + 1) (codes ", ") end (variable_written test n k mark h (sym w.if-is_multiplicative.ensures) left (search rules)))
-      | else-is_multiplicative w ↦ rw w.f-is (variables_written test n (k + 1) mark end (variable_skipped test n k mark h (sym w.if-is_multiplicative.ensures) left))
+      | then-is_multiplicative+in_ok-write w ↦ rw w.f-is (variables_written test n (k + 1) (codes ", ") end (variable_written test n k mark h w.if-is_multiplicative.ensures left (search rules)))
+      | else-is_multiplicative w ↦ rw w.f-is (variables_written test n (k + 1) mark end (variable_skipped test n k mark h w.if-is_multiplicative.ensures left))
     ]
