@@ -52,7 +52,7 @@ raise_times m v w b s =
 
 -- ---- the leading monomial of a row
 
-leading_wide : {S : Setting} (f : Poly) → Good S f → Wide (leading f)
+pub leading_wide : {S : Setting} (f : Poly) → Good S f → Wide (leading f)
 leading_wide [] a = refl
 leading_wide (t ∷ f) a = (a.acceptable.written.over t (Memᴰ.head refl)).1.wide
 

@@ -11,10 +11,10 @@ use Rattle.std.proofs.lemmas.Bool.{cases_eq, cond-true, cond-false, both_ways}
 use Rattle.monomial.specs.Monomial.{Wide, Divides}
 use Rattle.monomial.specs.Order.{Compare, OrderLaws, Under}
 use Rattle.monomial.specs.Division.{Within, Distinct, member}
-use Rattle.polynomial.specs.Polynomial.{Poly, leading}
+use Rattle.polynomial.specs.Polynomial.{leading}
 use Rattle.involutive.specs.Reduction.{row}
 use Rattle.involutive.specs.Sheet.{Setting, State}
-use Rattle.involutive.specs.Sound.{Row as Good, Sound}
+use Rattle.involutive.specs.Sound.{Sound}
 use Rattle.involutive.specs.Answers.{Minimal, Rising, rising_none, rising_one, rising_more, Selection}
 use Rattle.reduction.specs.declared.table.Row.{Row}
 use Rattle.reduction.specs.Table.{terms_of, SoundTable}
@@ -22,6 +22,7 @@ use Rattle.sheet.specs.Marks.{state_of}
 use Rattle.sheet.specs.Rows.{lead_of}
 use Rattle.sheet.specs.Selecting.{Undivided, placed, Picks, Ascending, ascending_none, ascending_more}
 use Rattle.sheet.proofs.Mapping.{map_at, element}
+use Rattle.sheet.proofs.Choosings.{leading_wide}
 
 pub lead_at : (rows : List Row) (k : ℕ) (d : Row) → Within k (length rows) → member (map lead_of rows) k ≡ lead_of (get_or rows (k - 1) d)
 lead_at rows k d w = get_or-map lead_of rows (k - 1) d [] (omega (arith, w))
@@ -181,10 +182,6 @@ pub so_far_all : (O : Compare) (U : List (List ℕ)) (i n : ℕ) (ks : List ℕ)
 so_far_all O U i n ks e I = subst (λ x. SoFar O U x ks) e I
 
 -- ---- on a sound sheet these are the rows to copy
-
-leading_wide : {S : Setting} (f : Poly) → Good S f → Wide (leading f)
-leading_wide [] a = refl
-leading_wide (t ∷ f) a = (a.acceptable.written.over t (Memᴰ.head refl)).1.wide
 
 module _ (S : Setting) (rows : List Row) (xs : List (List Bool)) (I : SoundTable S rows) (A : Sound S (state_of rows xs)) where
   abbrev U : List (List ℕ)
