@@ -3,10 +3,10 @@ use Rattle.std.proofs.Common.{◌≡◌, ℕ, ◌<◌, List, [], ◌∷◌, ◌+
 use mathlib.Core.List.Memᴰ
 use mathlib.Core.List.{Memᴰ}
 use Rattle.field.specs.Field.{FieldMeaning}
-use Rattle.monomial.specs.Monomial.{In, one}
+use Rattle.monomial.specs.Monomial.{In, one, times}
 use Rattle.polynomial.specs.declared.term.Term.{Term}
 use Rattle.polynomial.specs.Polynomial.{Poly, exponents, Over}
-use Rattle.involutive.specs.Value.{Equal, plus, minus, scaled, negated, product}
+use Rattle.involutive.specs.Value.{at, Equal, plus, minus, scaled, negated, product}
 use Rattle.involutive.specs.Ideal.{Member, SameIdeal}
 use Rattle.involutive.proofs.Algebra
 use Rattle.involutive.proofs.Algebra.{Base, Span}
@@ -29,6 +29,16 @@ module _ (ground : Ground) where
 
   pub eachs : (Q : List Poly → Type 0) → ((ps : List Typed) → Q (map raw ps)) → (fs : List Poly) → Overs F N fs → Q fs
   eachs Q h fs o = let p = Typing.typeds ground fs o in subst Q p.1 (h p.0)
+
+  pub at_plus : (f : Poly) → Over F N f → (g : Poly) → Over F N g → (m : List ℕ) → In N m → at F (plus f g) m ≡ F.add (at F f m) (at F g m)
+  at_plus = each _ (λ p. each _ (λ q m w.
+      rw (← (Typing.raw-++ ground p q), Typing.raw_at ground (p ++ q) (m, w), Typing.raw_at ground p (m, w), Typing.raw_at ground q (m, w))
+      (ap (λ c. c.0) (ap (λ v. v (m, w)) (Algebra.at-++ B p q) ∙ Algebra.⊕-at B (Algebra.at B p) (Algebra.at B q) (m, w)))))
+
+  pub at_scaled : (c : ℕ) (a : List ℕ) → c < F.q → In N a → (f : Poly) → Over F N f → (m : List ℕ) → In N m → at F (scaled F c a f) (times a m) ≡ F.mul c (at F f m)
+  at_scaled c a h w = each _ (λ p m v. let n : Mono N = Monomials.mul (a, w) (m, v) in
+      rw (← (Typing.raw_scaled ground (c, h) (a, w) p), Typing.raw_at ground (Algebra.scaled B (c, h) (a, w) p) n, Typing.raw_at ground p (m, v))
+      (ap (λ c. c.0) (ap (λ v. v n) (Algebra.at_scaled B (c, h) (a, w) p) ∙ Algebra.shift_at B (c, h) (a, w) (Algebra.at B p) (m, v))))
 
   pub over_plus : (f g : Poly) → Over F N f → Over F N g → Over F N (plus f g)
   over_plus f g o o' t h = ⊎_elim (λ k. o t k) (λ k. o' t k) (Memᴰ.append_cases f h)

@@ -1,7 +1,7 @@
 -- Reducing comes to one thing: the greatest reducible term, the row that divides it and the written difference are determined.
-use Rattle.std.proofs.Common.{◌≡◌, ℕ, ◌⊎◌, length, sym, refl, ap, ◌∙◌, subst, subst₂, inl, inr, arith}
+use Rattle.std.proofs.Common.{◌≡◌, ℕ, ◌⊎◌, List, length, sym, refl, ap, ◌∙◌, subst, subst₂, inl, inr, arith}
 use Rattle.polynomial.specs.declared.term.Term.{Term}
-use Rattle.monomial.specs.Monomial.{In}
+use Rattle.monomial.specs.Monomial.{In, Wide}
 use Rattle.monomial.specs.Division.{Distinct, Involutive}
 use Rattle.involutive.specs.Value
 use Rattle.polynomial.specs.Polynomial.{Poly, exponents, Written}
@@ -22,6 +22,9 @@ module _ (S : Setting) (W : Lawful S) where
 
   module _ (T : Table) (U : Distinct (leaders T)) where
     -- the row that divides is one: the law that no monomial has two involutive divisors
+    one_row : (m : List ℕ) → Wide m → (j k : ℕ) → Involutive D (leaders T) j m → Involutive D (leaders T) k m → j ≡ k
+    one_row m w j k a b = W.division.no_two (leaders T) U m w j k a b
+
     one_action : (h : Poly) → Written F O N h → (t s : Term) (k j : ℕ) → Reducible F O D N T h t k → Reducible F O D N T h s j → (t ≡ s) × (k ≡ j)
     one_action h w t s k j a b = go (WrittenLists.under_tri ground (exponents t, x) (exponents s, y))
       where
@@ -36,7 +39,7 @@ module _ (S : Setting) (W : Lawful S) where
         go (inr (inr l)) = absurd (b.greatest t a.stands l k a.divisor)
         go (inr (inl e)) =
             let d : t ≡ s = WrittenLists.one_term ground h w t s a.stands b.stands (ap (λ m. m.0) e) in
-            (d, W.division.no_two (leaders T) U (exponents t) x.wide k j a.divisor (subst (λ t. Involutive D (leaders T) j (exponents t)) (sym d) b.divisor))
+            (d, one_row (exponents t) x.wide k j a.divisor (subst (λ t. Involutive D (leaders T) j (exponents t)) (sym d) b.divisor))
 
     one_difference : (h : Poly) → Written F O N h → (t s : Term) (k j : ℕ) → Reducible F O D N T h t k → Reducible F O D N T h s j → (g g' : Poly) → Difference F O D N T h (multiple F O D N T t k) g → Difference F O D N T h (multiple F O D N T s j) g' → g ≡ g'
     one_difference h w t s k j a b g g' x y =
