@@ -44,7 +44,7 @@ def functions(text):
 
 
 def requires(signature):
-    return re.findall(r"requires \{ (.*) \}", signature)
+    return re.findall(r"requires (?:\w+ )?\{ (.*) \}", signature)
 
 
 def found(kind):

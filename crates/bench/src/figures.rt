@@ -40,17 +40,16 @@ fn incomplete(_refusal: Refusal) -> anyhow::Error {
 
 // Adds the generators and steps until the sheet is closed.
 fn complete<C: Calls>(sheet: &mut C, generators: &[Vec<Term>]) -> anyhow::Result<Size> {
-    let mut size = Size { rows: 0, steps: 0 };
+    let mut rows: u64 = 0;
     for generator in generators {
-        size.rows = sheet.add(generator.as_slice()).map_err(incomplete)? as u64;
+        rows = sheet.add(generator.as_slice()).map_err(incomplete)? as u64;
     }
-    for _ in 0..MOST_STEPS {
+    for steps in 0..MOST_STEPS {
         match sheet.step().map_err(incomplete)? {
-            Step::Closed => return Ok(size),
+            Step::Closed => return Ok(Size { rows, steps }),
             Step::Marked => {}
-            Step::Appended => size.rows = size.rows.saturating_add(1),
+            Step::Appended => rows = rows.saturating_add(1),
         }
-        size.steps = size.steps.saturating_add(1);
     }
     Err(anyhow!("a sheet could not be completed"))
 }

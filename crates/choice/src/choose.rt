@@ -35,6 +35,8 @@ pub trait Task: Drop {
         ensures { gives self (F.Field.meaning ring.field) (O.Order.meaning ring.order) (D.Division.meaning division) ring.variables result };
 }
 
+// The numbers are read where they become types, here and below, and nowhere else.
+//
 // What the task comes to under the field, the order and the division that the operands name, in 1 to 6 variables; or the
 // first of the four that they do not name.
 pub fn choose<T: Task>(operands: Operands, task: T) -> Result<T::Done, Unnamed>

@@ -30,7 +30,7 @@ pub struct Line<'a> {
     pub at: usize,
     // the byte of the command
     pub byte: u8,
-    // the refusal's number, 0 when granted
+    // the refusal's number, 0 when granted: a number, since that is what is written
     pub number: u8,
     // the value, or the refusal's place
     pub value: usize,

@@ -6,6 +6,7 @@
 // refusal   why reducing is refused
 // search    the greatest term that has an involutive divisor, and that divisor
 // scale     a multiple of a polynomial
+// merge     adding up two lists of terms
 // subtract  subtracting a multiple of a row
 // reduce    reducing until no term has a divisor
 #![tactic(auto)]

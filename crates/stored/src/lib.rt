@@ -6,6 +6,7 @@
 // row      a row of a stored table
 // rows     the rows of its records
 // text     a table as people write it
+// show     a stored table, read and told as text
 #![tactic(auto)]
 
 pub mod fault;

@@ -8,7 +8,7 @@ use polynomial::bytes::{NoRun, read_run};
 use polynomial::term::Term;
 use std::alloc::Global;
 
-// What is wrong where no run of terms stands at that offset.
+// What is wrong where no run of terms stands at that offset. No `From`: the offset is needed too.
 fn run_fault(why: NoRun, offset: usize) -> Fault
     requires { WithinFile why offset }
     ensures { result ≡ fault_of why offset }

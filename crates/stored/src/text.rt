@@ -11,7 +11,7 @@ use monomial::division::Division;
 use polynomial::term::Term;
 use std::fmt;
 
-// A table whose rows have those leading monomials.
+// A table whose rows have those leading monomials, in a list of their own since that is what a division is asked about.
 #[derive(Clone, Copy)]
 pub(crate) struct Table<'a, D> {
     pub(crate) operands: Operands,
