@@ -26,7 +26,7 @@ abbrev pub fault_text : Fault → List ℕ
 fault_text (Bad why at) = reason_text why ++ (codes ", at offset " ++ decimal at)
 fault_text Memory = codes "no memory for the table"
 
--- the first operand by which the missing thing is named
+-- the offset of the first operand by which the missing thing is named
 abbrev pub unnamed_offset : Unnamed → ℕ
 unnamed_offset Field = 1
 unnamed_offset Variables = 4
