@@ -80,7 +80,7 @@ fn operands<const N: usize>(input: &[u8]) -> &[u8; N]
 }
 
 // The command at the front of the input, and the rest; nothing at the end of the input. No command is misplaced here.
-// The patterns take byte, operands and rest apart, as the project's code does wherever bytes are read.
+// The patterns count the bytes of the operands, which `operands` then lends.
 pub fn next<'a>(input: &'a [u8]) -> Result<Option<(Command<'a>, &'a [u8])>, Fault>
     ensures { Reads input.now result }
 {

@@ -3,7 +3,7 @@
 // command     the commands, with their operands as parts of the file
 // tell        the line of each answer
 // play        the commands after the making, one after the other
-// choose      the making: field, order and division by their codes
+// choose      the making: the line of what the sheet command's codes name, and the commands on a new sheet over that
 // transcript  a whole command file and its transcript
 #![tactic(auto)]
 

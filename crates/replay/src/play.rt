@@ -11,7 +11,7 @@ ghost use Rattle.replay.specs.Grammar.{byte_of, operands_of, ReadsCall};
 ghost use Rattle.replay.specs.Replay.{Stepping, Acts, Ran, Starts, granted};
 
 use crate::command::{Command, Fault, next};
-use crate::tell::{Steps, added, copied, judged, made, refused, shown, stepped};
+use crate::tell::{Steps, answered, copied, made, refused, shown, stepped};
 use calls::answer::{MOST_COPY_BYTES, Step};
 use calls::calls::Calls;
 use choice::operands::SHEET_BYTES;
@@ -104,7 +104,7 @@ impl Replay {
     {
         let answer = sheet.add(self.gathered.as_slice());
         self.gathered.clear();
-        added(at, answer).write_to(&mut self.text)
+        answered(at, Command::Add, answer).write_to(&mut self.text)
     }
 
     fn steps<C: Calls>(
@@ -147,8 +147,8 @@ impl Replay {
     fn verdict<C: Calls>(&mut self, sheet: &C, at: usize) -> Result<(), AllocError>
         ensures acts { OnOk result (Sound (C.Calls.setting sheet.now) (C.Calls.state sheet.now) → Acts (C.Calls.setting sheet.now) (C.Calls.state sheet.now) self.old.gathered.items at 7 [] (C.Calls.state sheet.now) self.new.gathered.items self.old.text.items self.new.text.items) }
     {
-        let answer = sheet.verdict();
-        judged(at, answer).write_to(&mut self.text)
+        let answer = sheet.verdict().map(|verdict| verdict.number());
+        answered(at, Command::Verdict, answer).write_to(&mut self.text)
     }
 
     // What the command at that offset comes to. The sheet and the offset go on side by side: nothing is true of the two
