@@ -38,8 +38,7 @@ fn repeat_step<C: Calls>(sheet: &mut C, count: u16) -> Steps
     ensures kept { C.Calls.setting sheet.new ≡ C.Calls.setting sheet.old }
     ensures steps { Sound (C.Calls.setting sheet.old) (C.Calls.state sheet.old) → (log : List Call) → (log' : List Call) × Stepping (C.Calls.setting sheet.old) (C.Calls.state sheet.old) log count result.granted (option_map told result.denial) (C.Calls.state sheet.new) log' }
 {
-    let mut granted = 0;
-    'steps: for _ in 0..count {
+    'steps: for granted in 0..count {
         match sheet.step() {
             Err(refusal) => return Steps {
                 granted,
@@ -51,13 +50,13 @@ fn repeat_step<C: Calls>(sheet: &mut C, count: u16) -> Steps
                     granted,
                     denial: None,
                 },
-                Step::Marked => granted += 1,
-                Step::Appended => granted += 1,
+                Step::Marked => {}
+                Step::Appended => {}
             },
         }
     }
     Steps {
-        granted,
+        granted: count,
         denial: None,
     }
 }

@@ -17,7 +17,7 @@ use std::alloc::{AllocError, Global};
 // How many steps were granted, and what denied the next one.
 #[derive(Clone, Copy)]
 pub(crate) struct Steps {
-    pub(crate) granted: usize,
+    pub(crate) granted: u16,
     pub(crate) denial: Option<Refusal>,
 }
 
@@ -94,7 +94,7 @@ pub(crate) fn stepped(at: usize, operands: &[u8; 2], steps: Steps) -> Line<'stat
     ensures { line_text result ≡ stepped_line at steps.granted (option_map told steps.denial) }
 {
     let byte = Command::Steps(operands).byte();
-    let count = steps.granted;
+    let count = usize::from(steps.granted);
     match steps.denial {
         None => granted(at, byte, count, More::Nothing),
         Some(refusal) => denied(at, byte, refusal, More::Count(count)),
