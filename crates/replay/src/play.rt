@@ -10,7 +10,8 @@ ghost use Rattle.replay.specs.Words.{gather, term_of};
 ghost use Rattle.replay.specs.Grammar.{byte_of, operands_of, ReadsCall};
 ghost use Rattle.replay.specs.Replay.{Stepping, Acts, Ran, Starts, granted};
 
-use crate::command::{Command, Fault, next};
+use crate::command::{Command, next};
+use crate::stop::Stop;
 use crate::tell::{Steps, answered, copied, made, refused, shown, stepped};
 use calls::answer::{MOST_COPY_BYTES, Step};
 use calls::calls::Calls;
@@ -24,11 +25,11 @@ use std::alloc::{AllocError, Global};
 const MOST_GATHERED: usize = 41;
 
 // The command at the front, which may be any but a sheet command, and the rest.
-fn next_call<'a>(input: &'a [u8]) -> Result<Option<(Command<'a>, &'a [u8])>, Fault>
+fn next_call<'a>(input: &'a [u8]) -> Result<Option<(Command<'a>, &'a [u8])>, Stop>
     ensures { ReadsCall input.now result }
 {
     match next(input)? {
-        Some((Command::Sheet(_), _)) => Err(Fault::Misplaced(Command::SHEET)),
+        Some((Command::Sheet(_), _)) => Err(Stop::Misplaced(Command::SHEET)),
         found => Ok(found),
     }
 }
@@ -187,7 +188,7 @@ impl Replay {
                     self.act(sheet, command, at)?;
                     rest = behind;
                 }
-                Err(fault) => return refused(at, fault).write_to(&mut self.text),
+                Err(stop) => return refused(at, stop).write_to(&mut self.text),
             }
         }
     }

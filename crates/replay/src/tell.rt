@@ -3,10 +3,11 @@ ghost use Rattle.std.specs.Prelude.{◌≡◌, ◌≤◌, [], length, IfOk};
 ghost use Rattle.std.specs.Option.{option_map, unwrap_or};
 ghost use Rattle.calls.specs.Told.{told, added, wrote, copied as copied_as};
 ghost use Rattle.lines.specs.Line.{line, line_text};
-ghost use Rattle.replay.specs.Grammar.{byte_of, fault_byte, fault_number, no_sheet_number};
+ghost use Rattle.replay.specs.Grammar.{byte_of, stop_byte, stop_number, no_sheet_number};
 ghost use Rattle.replay.specs.Words.{answered as answered_line, shown as shown_line, copied as copied_line, stepped as stepped_line, refused_line};
 
-use crate::command::{Command, Fault};
+use crate::command::Command;
+use crate::stop::Stop;
 use calls::answer::Copied;
 use calls::refusal::Refusal;
 use choice::unnamed::Unnamed;
@@ -139,14 +140,14 @@ pub(crate) fn not_made(reason: Unnamed) -> Line<'static>
 }
 
 // The line of a command that is not carried out.
-pub(crate) fn refused(at: usize, fault: Fault) -> Line<'static>
-    ensures { line_text result ≡ refused_line at (fault_byte fault) (fault_number fault) }
+pub(crate) fn refused(at: usize, stop: Stop) -> Line<'static>
+    ensures { line_text result ≡ refused_line at (stop_byte stop) (stop_number stop) }
 {
-    let byte = fault.byte();
+    let byte = stop.byte();
     Line {
         at,
         byte,
-        number: fault.number(),
+        number: stop.number(),
         value: at,
         // Refused steps tell that none was granted.
         more: if byte == Command::STEPS {
