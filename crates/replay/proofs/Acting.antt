@@ -1,5 +1,9 @@
 -- What each command comes to, from the sheet's answer and the text that was written.
-use Rattle.std.proofs.Common.{◌≡◌, ℕ, ◌≤◌, List, [], ◌∷◌, ◌++◌, length, get_or, IfOk, Ok, Err, Option, Result, sym, ap, ◌∙◌, subst, append-nil, Bor}
+use Rattle.std.proofs.Common.{◌≡◌, ℕ, ◌≤◌, List, [], ◌∷◌, ◌++◌, length, get_or, IfOk, Ok, Err, Option, Result, MatchResult, sym, ap, ◌∙◌, subst, append-nil, Bor}
+use Rattle.std.specs.Result.{IsOkAnd}
+use Rattle.calls.specs.declared.refusal.Refusal.{Refusal as Denial}
+use Rattle.calls.specs.declared.answer.Verdict.{Verdict}
+use Rattle.calls.specs.Told.{added, judgement, judged}
 use Rattle.involutive.specs.Reduction.{Refusal}
 use Rattle.replay.specs.declared.command.Command.{Command}
 use Rattle.replay.specs.declared.command.Command.TheVariants.{Term as CommandTerm}
@@ -19,6 +23,12 @@ made_then (Err y) p f = tt
 -- a text that is added in other words
 pub told_as : (before : List ℕ) {after t u : List ℕ} → after ≡ before ++ t → t ≡ u → after ≡ before ++ u
 told_as before e q = e ∙ ap (λ x. before ++ x) q
+
+-- a verdict's number is told as the rows of an add are
+pub judged_line : (at b : ℕ) (v : Result Verdict Denial) (r : Result ℕ Denial) (P : Verdict → ℕ → Type 0) → MatchResult v (λ x. IsOkAnd r (P x)) (λ e. r ≡ Err e) → ((x : Verdict) (n : ℕ) → P x n → n ≡ judgement x) → answered at b (added r) ≡ answered at b (judged v)
+judged_line at b (Ok x) (Ok n) P m f = ap (λ n. answered at b (added (Ok n))) (f x n m)
+judged_line at b (Ok x) (Err e) P m f = absurd m
+judged_line at b (Err e) r P m f = ap (λ r. answered at b (added r)) m
 
 module _ {S : Setting} {s : State} {g : Poly} {at : ℕ} {before after : List ℕ} where
   pub acts_term : {ops : List ℕ} {g' : Poly} → g' ≡ gather g (term_of ops) → after ≡ before → Acts S s g at 1 ops s g' before after

@@ -6,8 +6,10 @@ use Rattle.lines.specs.Line.{line}
 use Rattle.replay.specs.declared.command.Command.{Command}
 use Rattle.replay.specs.declared.command.Command.TheVariants.{Sheet}
 use Rattle.replay.specs.declared.command.Fault.{Fault}
+use Rattle.replay.specs.declared.stop.Stop.{Stop}
+use Rattle.replay.specs.declared.stop.Stop.TheVariants.{Unread}
 use Rattle.replay.specs.Words.{refused_line}
-use Rattle.replay.specs.Grammar.{byte_of, operands_of, fault_byte, fault_number, Reads}
+use Rattle.replay.specs.Grammar.{byte_of, operands_of, stop_byte, stop_number, Reads}
 use Rattle.replay.specs.Replay.{CommandAt, Ran, granted, refused, making, Starts, not_made, is_made, Transcript, nothing, faulty, not_a_sheet, starts}
 use Rattle.replay.proofs.Playing.{read_some, read_fault, not_sheet}
 
@@ -32,5 +34,5 @@ other_first bs {c = c} e h f q t = subst (Transcript bs) (sym (t ∙ ap (λ b. r
 pub nothing_read : {text : List ℕ} (bs : List ℕ) → bs ≡ [] → text ≡ [] → Transcript bs text
 nothing_read {text = text} bs e t = subst (λ bs. Transcript bs text) (sym e) (subst (Transcript []) (sym t) nothing)
 
-pub none_carried_out : {text : List ℕ} (bs : List ℕ) (f : Fault) → Reads bs (Err f) → text ≡ refused_line 0 (fault_byte f) (fault_number f) → Transcript bs text
-none_carried_out bs f h t = subst (Transcript bs) (sym t) (faulty (read_fault bs f h))
+pub none_carried_out : {text : List ℕ} {stop : Stop} (bs : List ℕ) (f : Fault) → Reads bs (Err f) → stop ≡ Unread f → text ≡ refused_line 0 (stop_byte stop) (stop_number stop) → Transcript bs text
+none_carried_out bs f h e t = subst (Transcript bs) (sym (t ∙ ap (λ stop. refused_line 0 (stop_byte stop) (stop_number stop)) e)) (faulty (read_fault bs f h))

@@ -3,9 +3,11 @@ use Rattle.std.proofs.Common.{take-append-drop, ◌≡◌, ℕ, ◌+◌, ◌<◌
 use Rattle.replay.specs.declared.command.Command.{Command}
 use Rattle.replay.specs.declared.command.Command.TheVariants.{Sheet, Term, Add, Steps, Remainder, Row, FairCopy, Verdict}
 use Rattle.replay.specs.declared.command.Fault.{Fault}
-use Rattle.replay.specs.declared.command.Fault.TheVariants.{Short, Unknown, Misplaced}
+use Rattle.replay.specs.declared.command.Fault.TheVariants.{Short, Unknown}
+use Rattle.replay.specs.declared.stop.Stop.{Stop}
+use Rattle.replay.specs.declared.stop.Stop.TheVariants.{Unread, Misplaced}
 use Rattle.replay.specs.Words.{operand_bytes, refused_line}
-use Rattle.replay.specs.Grammar.{byte_of, operands_of, fault_byte, fault_number, Reads, ReadsCall}
+use Rattle.replay.specs.Grammar.{byte_of, operands_of, stop_byte, stop_number, Reads, ReadsCall}
 use Rattle.polynomial.specs.Polynomial.{Poly}
 use Rattle.involutive.specs.Sheet.{Setting, Lawful, State}
 use Rattle.involutive.specs.Log.{Call, After}
@@ -88,10 +90,9 @@ faulty_short : (bs : List ℕ) {b : ℕ} → (0 < length bs) × (get_or bs 0 0 �
 faulty_short [] h = absurd (omega (arith, h.0))
 faulty_short (x ∷ bs) {b} h = subst (λ y. Faulty (y ∷ bs) b 16) (sym h.1) (short h.2 (omega (arith, h.3)))
 
-pub read_fault : (bs : List ℕ) (f : Fault) → Reads bs (Err f) → Faulty bs (fault_byte f) (fault_number f)
+pub read_fault : (bs : List ℕ) (f : Fault) → Reads bs (Err f) → Faulty bs (stop_byte (Unread f)) (stop_number (Unread f))
 read_fault bs (Unknown b) h = faulty_unknown bs h
 read_fault bs (Short b) h = faulty_short bs h
-read_fault bs (Misplaced b) h = absurd h
 
 -- the same behind the sheet command
 
@@ -102,10 +103,9 @@ pub call_none : {S : Setting} {s : State} {g : Poly} {at : ℕ} (bs : List ℕ) 
 call_none [] e h log = ends
 call_none (b ∷ bs) e h log = let k : length (b ∷ bs) ≡ 0 = subst (λ p. ReadsCall (b ∷ bs) (Ok p)) e h in absurd (omega (arith, k))
 
-pub call_fault : {S : Setting} {s : State} {g : Poly} {at : ℕ} (bs : List ℕ) (f : Fault) → ReadsCall bs (Err f) → (log : List Call) → Runs S s log g at bs s log (refused_line at (fault_byte f) (fault_number f))
-call_fault bs (Unknown b) h log = stops (read_fault bs (Unknown b) h)
-call_fault bs (Short b) h log = stops (read_fault bs (Short b) h)
-call_fault {S = S} {s = s} {g = g} {at = at} bs (Misplaced b) h log = subst (λ b. Runs S s log g at bs s log (refused_line at b 17)) (sym h.2) (made_again (stands bs (omega arith) h.0 h.1 refl refl))
+pub call_stop : {S : Setting} {s : State} {g : Poly} {at : ℕ} (bs : List ℕ) (stop : Stop) → ReadsCall bs (Err stop) → (log : List Call) → Runs S s log g at bs s log (refused_line at (stop_byte stop) (stop_number stop))
+call_stop bs (Unread f) h log = stops (read_fault bs f h)
+call_stop {S = S} {s = s} {g = g} {at = at} bs (Misplaced b) h log = subst (λ b. Runs S s log g at bs s log (refused_line at b 17)) (sym h.2) (made_again (stands bs (omega arith) h.0 h.1 refl refl))
 
 pub long : {bs ops rest : List ℕ} {b : ℕ} → CommandAt bs b ops rest → length bs ≡ 1 + (operand_bytes b + length rest)
 long {ops = ops} {rest = rest} k = let e = length-append ops rest in let l = ap length k.bytes in let w = k.operands in omega (arith, e, l, w)

@@ -4,7 +4,9 @@ use Rattle.std.specs.Borrow.{Bor}
 use Rattle.replay.specs.declared.command.Command.{Command}
 use Rattle.replay.specs.declared.command.Command.TheVariants.{Sheet, Term, Add, Steps, Remainder, Row, FairCopy, Verdict}
 use Rattle.replay.specs.declared.command.Fault.{Fault}
-use Rattle.replay.specs.declared.command.Fault.TheVariants.{Short, Unknown, Misplaced}
+use Rattle.replay.specs.declared.command.Fault.TheVariants.{Short, Unknown}
+use Rattle.replay.specs.declared.stop.Stop.{Stop}
+use Rattle.replay.specs.declared.stop.Stop.TheVariants.{Unread, Misplaced}
 use Rattle.choice.specs.declared.unnamed.Unnamed.{Unnamed}
 use Rattle.choice.specs.declared.unnamed.Unnamed.TheVariants.{Field, Variables, Order, Division}
 use Rattle.replay.specs.Words.{operand_bytes}
@@ -34,26 +36,24 @@ Reads bs (Ok None) = length bs ≡ 0
 Reads bs (Ok (Some p)) = (slice_index bs 0 ≡ byte_of p.0) × (operand_bytes (byte_of p.0) < length bs) × (operands_of p.0 ≡ take (operand_bytes (byte_of p.0)) (drop 1 bs)) × (p.1.now ≡ drop (operand_bytes (byte_of p.0) + 1) bs)
 Reads bs (Err (Short b)) = (0 < length bs) × (slice_index bs 0 ≡ b) × (b ≤ 7) × (length bs ≤ operand_bytes b)
 Reads bs (Err (Unknown b)) = (0 < length bs) × (slice_index bs 0 ≡ b) × (7 < b)
-Reads bs (Err (Misplaced b)) = ⊥
 
 -- the same where no sheet command may stand
-abbrev pub ReadsCall : List ℕ → Result (Option (Command × Bor (List ℕ))) Fault → Type 0
+abbrev pub ReadsCall : List ℕ → Result (Option (Command × Bor (List ℕ))) Stop → Type 0
 ReadsCall bs (Ok None) = length bs ≡ 0
 ReadsCall bs (Ok (Some p)) = (0 < byte_of p.0) × Reads bs (Ok (Some p))
-ReadsCall bs (Err (Short b)) = Reads bs (Err (Short b))
-ReadsCall bs (Err (Unknown b)) = Reads bs (Err (Unknown b))
+ReadsCall bs (Err (Unread fault)) = Reads bs (Err fault)
 ReadsCall bs (Err (Misplaced b)) = (slice_index bs 0 ≡ 0) × (6 < length bs) × (b ≡ 0)
 
 -- the byte and the number of a command that is not carried out
-abbrev pub fault_byte : Fault → ℕ
-fault_byte (Unknown b) = b
-fault_byte (Short b) = b
-fault_byte (Misplaced b) = b
+abbrev pub stop_byte : Stop → ℕ
+stop_byte (Unread (Unknown b)) = b
+stop_byte (Unread (Short b)) = b
+stop_byte (Misplaced b) = b
 
-abbrev pub fault_number : Fault → ℕ
-fault_number (Unknown b) = 15
-fault_number (Short b) = 16
-fault_number (Misplaced b) = 17
+abbrev pub stop_number : Stop → ℕ
+stop_number (Unread (Unknown b)) = 15
+stop_number (Unread (Short b)) = 16
+stop_number (Misplaced b) = 17
 
 -- the number of a making that is refused
 abbrev pub no_sheet_number : Unnamed → ℕ

@@ -1,6 +1,6 @@
 // Commands: a byte and operands of fixed width, which are parts of the command file.
 ghost use Rattle.std.specs.Prelude.{◌≡◌, ◌<◌, length, take, drop};
-ghost use Rattle.replay.specs.Grammar.{Reads, byte_of, fault_byte, fault_number};
+ghost use Rattle.replay.specs.Grammar.{Reads, byte_of};
 
 // A command and its operands, which are parts of the input.
 #[derive(Clone, Copy, PartialEq, Eq, Debug)]
@@ -38,37 +38,13 @@ impl Command<'_> {
     }
 }
 
-// Why a command is not carried out.
+// Why a command is not read.
 #[derive(Clone, Copy, PartialEq, Eq, Debug)]
 pub enum Fault {
     // The byte is no command's.
     Unknown(u8),
     // Operands are missing.
     Short(u8),
-    // It is the first command and makes no sheet, or a later one and makes a sheet.
-    Misplaced(u8),
-}
-
-impl Fault {
-    // The byte of the command.
-    pub(crate) fn byte(&self) -> u8
-        ensures { result ≡ fault_byte self.now }
-    {
-        match *self {
-            Fault::Unknown(byte) | Fault::Short(byte) | Fault::Misplaced(byte) => byte,
-        }
-    }
-
-    // The number by which the formats name the refusal.
-    pub(crate) fn number(&self) -> u8
-        ensures { result ≡ fault_number self.now }
-    {
-        match self {
-            Fault::Unknown(_) => 15,
-            Fault::Short(_) => 16,
-            Fault::Misplaced(_) => 17,
-        }
-    }
 }
 
 // The operands behind the byte of a command that has them all.
@@ -79,8 +55,8 @@ fn operands<const N: usize>(input: &[u8]) -> &[u8; N]
     input[1..].first_chunk().unwrap()
 }
 
-// The command at the front of the input, and the rest; nothing at the end of the input. No command is misplaced here.
-// The patterns take byte, operands and rest apart, as the project's code does wherever bytes are read.
+// The command at the front of the input, and the rest; nothing at the end of the input.
+// The patterns count the bytes of the operands, which `operands` then lends.
 pub fn next<'a>(input: &'a [u8]) -> Result<Option<(Command<'a>, &'a [u8])>, Fault>
     ensures { Reads input.now result }
 {

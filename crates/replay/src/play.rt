@@ -10,8 +10,9 @@ ghost use Rattle.replay.specs.Words.{gather, term_of};
 ghost use Rattle.replay.specs.Grammar.{byte_of, operands_of, ReadsCall};
 ghost use Rattle.replay.specs.Replay.{Stepping, Acts, Ran, Starts, granted};
 
-use crate::command::{Command, Fault, next};
-use crate::tell::{Steps, added, copied, judged, made, refused, shown, stepped};
+use crate::command::{Command, next};
+use crate::stop::Stop;
+use crate::tell::{Steps, answered, copied, made, refused, shown, stepped};
 use calls::answer::{MOST_COPY_BYTES, Step};
 use calls::calls::Calls;
 use choice::operands::SHEET_BYTES;
@@ -24,11 +25,11 @@ use std::alloc::{AllocError, Global};
 const MOST_GATHERED: usize = 41;
 
 // The command at the front, which may be any but a sheet command, and the rest.
-fn next_call<'a>(input: &'a [u8]) -> Result<Option<(Command<'a>, &'a [u8])>, Fault>
+fn next_call<'a>(input: &'a [u8]) -> Result<Option<(Command<'a>, &'a [u8])>, Stop>
     ensures { ReadsCall input.now result }
 {
     match next(input)? {
-        Some((Command::Sheet(_), _)) => Err(Fault::Misplaced(Command::SHEET)),
+        Some((Command::Sheet(_), _)) => Err(Stop::Misplaced(Command::SHEET)),
         found => Ok(found),
     }
 }
@@ -38,8 +39,7 @@ fn repeat_step<C: Calls>(sheet: &mut C, count: u16) -> Steps
     ensures kept { C.Calls.setting sheet.new ≡ C.Calls.setting sheet.old }
     ensures steps { Sound (C.Calls.setting sheet.old) (C.Calls.state sheet.old) → (log : List Call) → (log' : List Call) × Stepping (C.Calls.setting sheet.old) (C.Calls.state sheet.old) log count result.granted (option_map told result.denial) (C.Calls.state sheet.new) log' }
 {
-    let mut granted = 0;
-    'steps: for _ in 0..count {
+    'steps: for granted in 0..count {
         match sheet.step() {
             Err(refusal) => return Steps {
                 granted,
@@ -51,13 +51,13 @@ fn repeat_step<C: Calls>(sheet: &mut C, count: u16) -> Steps
                     granted,
                     denial: None,
                 },
-                Step::Marked => granted += 1,
-                Step::Appended => granted += 1,
+                Step::Marked => {}
+                Step::Appended => {}
             },
         }
     }
     Steps {
-        granted,
+        granted: count,
         denial: None,
     }
 }
@@ -104,7 +104,7 @@ impl Replay {
     {
         let answer = sheet.add(self.gathered.as_slice());
         self.gathered.clear();
-        added(at, answer).write_to(&mut self.text)
+        answered(at, Command::Add, answer).write_to(&mut self.text)
     }
 
     fn steps<C: Calls>(
@@ -147,8 +147,8 @@ impl Replay {
     fn verdict<C: Calls>(&mut self, sheet: &C, at: usize) -> Result<(), AllocError>
         ensures acts { OnOk result (Sound (C.Calls.setting sheet.now) (C.Calls.state sheet.now) → Acts (C.Calls.setting sheet.now) (C.Calls.state sheet.now) self.old.gathered.items at 7 [] (C.Calls.state sheet.now) self.new.gathered.items self.old.text.items self.new.text.items) }
     {
-        let answer = sheet.verdict();
-        judged(at, answer).write_to(&mut self.text)
+        let answer = sheet.verdict().map(|verdict| verdict.number());
+        answered(at, Command::Verdict, answer).write_to(&mut self.text)
     }
 
     // What the command at that offset comes to. The sheet and the offset go on side by side: nothing is true of the two
@@ -188,7 +188,7 @@ impl Replay {
                     self.act(sheet, command, at)?;
                     rest = behind;
                 }
-                Err(fault) => return refused(at, fault).write_to(&mut self.text),
+                Err(stop) => return refused(at, stop).write_to(&mut self.text),
             }
         }
     }

@@ -1,13 +1,14 @@
 // The line of each answer.
 ghost use Rattle.std.specs.Prelude.{◌≡◌, ◌≤◌, [], length, IfOk};
 ghost use Rattle.std.specs.Option.{option_map, unwrap_or};
-ghost use Rattle.calls.specs.Told.{told, added as added_as, wrote, copied as copied_as, judged as judged_as};
+ghost use Rattle.calls.specs.Told.{told, added, wrote, copied as copied_as};
 ghost use Rattle.lines.specs.Line.{line, line_text};
-ghost use Rattle.replay.specs.Grammar.{byte_of, fault_byte, fault_number, no_sheet_number};
+ghost use Rattle.replay.specs.Grammar.{byte_of, stop_byte, stop_number, no_sheet_number};
 ghost use Rattle.replay.specs.Words.{answered as answered_line, shown as shown_line, copied as copied_line, stepped as stepped_line, refused_line};
 
-use crate::command::{Command, Fault};
-use calls::answer::{Copied, Verdict};
+use crate::command::Command;
+use crate::stop::Stop;
+use calls::answer::Copied;
 use calls::refusal::Refusal;
 use choice::unnamed::Unnamed;
 use lines::{Line, More};
@@ -17,7 +18,7 @@ use std::alloc::{AllocError, Global};
 // How many steps were granted, and what denied the next one.
 #[derive(Clone, Copy)]
 pub(crate) struct Steps {
-    pub(crate) granted: usize,
+    pub(crate) granted: u16,
     pub(crate) denial: Option<Refusal>,
 }
 
@@ -47,25 +48,17 @@ fn denied<'a>(at: usize, byte: u8, refusal: Refusal, more: More<'a>) -> Line<'a>
     }
 }
 
-// The line of an add.
-pub(crate) fn added(at: usize, answer: Result<usize, Refusal>) -> Line<'static>
-    ensures { line_text result ≡ answered_line at 2 (added_as answer) }
+// The line of an add or a verdict.
+pub(crate) fn answered(
+    at: usize,
+    command: Command<'_>,
+    answer: Result<usize, Refusal>,
+) -> Line<'static>
+    ensures { line_text result ≡ answered_line at (byte_of command.entry) (added answer) }
 {
-    let byte = Command::Add.byte();
     match answer {
-        Ok(rows) => granted(at, byte, rows, More::Nothing),
-        Err(refusal) => denied(at, byte, refusal, More::Nothing),
-    }
-}
-
-// The line of a verdict.
-pub(crate) fn judged(at: usize, answer: Result<Verdict, Refusal>) -> Line<'static>
-    ensures { line_text result ≡ answered_line at 7 (judged_as answer) }
-{
-    let byte = Command::Verdict.byte();
-    match answer {
-        Ok(verdict) => granted(at, byte, verdict.number(), More::Nothing),
-        Err(refusal) => denied(at, byte, refusal, More::Nothing),
+        Ok(value) => granted(at, command.byte(), value, More::Nothing),
+        Err(refusal) => denied(at, command.byte(), refusal, More::Nothing),
     }
 }
 
@@ -102,7 +95,7 @@ pub(crate) fn stepped(at: usize, operands: &[u8; 2], steps: Steps) -> Line<'stat
     ensures { line_text result ≡ stepped_line at steps.granted (option_map told steps.denial) }
 {
     let byte = Command::Steps(operands).byte();
-    let count = steps.granted;
+    let count = usize::from(steps.granted);
     match steps.denial {
         None => granted(at, byte, count, More::Nothing),
         Some(refusal) => denied(at, byte, refusal, More::Count(count)),
@@ -147,14 +140,14 @@ pub(crate) fn not_made(reason: Unnamed) -> Line<'static>
 }
 
 // The line of a command that is not carried out.
-pub(crate) fn refused(at: usize, fault: Fault) -> Line<'static>
-    ensures { line_text result ≡ refused_line at (fault_byte fault) (fault_number fault) }
+pub(crate) fn refused(at: usize, stop: Stop) -> Line<'static>
+    ensures { line_text result ≡ refused_line at (stop_byte stop) (stop_number stop) }
 {
-    let byte = fault.byte();
+    let byte = stop.byte();
     Line {
         at,
         byte,
-        number: fault.number(),
+        number: stop.number(),
         value: at,
         // Refused steps tell that none was granted.
         more: if byte == Command::STEPS {

@@ -7,7 +7,8 @@ ghost use Rattle.involutive.specs.Sound.{SoundnessKept};
 ghost use Rattle.replay.specs.Replay.{Transcript, OneTranscript, most_input};
 
 use crate::choose::start;
-use crate::command::{Command, Fault, next};
+use crate::command::{Command, next};
+use crate::stop::Stop;
 use crate::tell::{refused, text_of};
 use std::alloc::{AllocError, Global};
 
@@ -22,9 +23,9 @@ fn write(heap: Global, input: &[u8]) -> Result<Vec<u8>, AllocError>
         Ok(None) => Ok(Vec::new(heap)),
         Ok(Some((command, rest))) => match command {
             Command::Sheet(bytes) => start(heap, bytes, rest),
-            _ => text_of(heap, refused(0, Fault::Misplaced(command.byte()))),
+            _ => text_of(heap, refused(0, Stop::Misplaced(command.byte()))),
         },
-        Err(fault) => text_of(heap, refused(0, fault)),
+        Err(fault) => text_of(heap, refused(0, fault.into())),
     }
 }
 

@@ -1,9 +1,9 @@
-use Rattle.std.proofs.Common.{◌≡◌, ◌-◌, ◌≤◌, List}
+use Rattle.std.proofs.Common.{◌≡◌, ◌-◌, List}
 use Rattle.involutive.specs.Log.{Call}
 use Rattle.involutive.specs.Sound.{Sound}
 use Rattle.replay.proofs.Steppings.{Stood}
 use Rattle.replay.proofs.play.repeat_step.Given as goal
 
 abbrev pub invariant-steps : goal.invariant-steps
-invariant-steps g l = (g.C.Calls.setting l.sheet ≡ g.C.Calls.setting l.initial.sheet) × (l.granted ≤ l.counter) ×
-    (Sound (g.C.Calls.setting l.initial.sheet) (g.C.Calls.state l.initial.sheet) → Sound (g.C.Calls.setting l.initial.sheet) (g.C.Calls.state l.sheet) × ((log : List Call) → Stood (g.C.Calls.setting l.initial.sheet) (g.C.Calls.state l.initial.sheet) log l.count l.granted (g.C.Calls.state l.sheet) (l.count - l.counter)))
+invariant-steps g l = (g.C.Calls.setting l.sheet ≡ g.C.Calls.setting l.initial.sheet) ×
+    (Sound (g.C.Calls.setting l.initial.sheet) (g.C.Calls.state l.initial.sheet) → Sound (g.C.Calls.setting l.initial.sheet) (g.C.Calls.state l.sheet) × ((log : List Call) → Stood (g.C.Calls.setting l.initial.sheet) (g.C.Calls.state l.initial.sheet) log l.count l.granted (g.C.Calls.state l.sheet) (l.count - l.granted)))

@@ -14,4 +14,4 @@ pub returns-in_default : goal.returns-in_default
 returns-in_default c = made_then c.text_of.result c.text_of.ensures (λ _ t. other_first c.args.input.now c.in-Ok-Some.field-0-is c.in-Ok-Some.ensures c.in_default.not-Sheet c.byte.ensures (t ∙ c.refused.ensures))
 
 pub returns-in-Err : goal.returns-in-Err
-returns-in-Err c = made_then c.text_of-in-Err.result c.text_of-in-Err.ensures (λ _ t. none_carried_out c.args.input.now c.in-Err.fault c.in-Err.ensures (t ∙ c.refused-in-Err.ensures))
+returns-in-Err c = made_then c.text_of-in-Err.result c.text_of-in-Err.ensures (λ _ t. none_carried_out c.args.input.now c.in-Err.fault c.in-Err.ensures c.into.ensures (t ∙ c.refused-in-Err.ensures))

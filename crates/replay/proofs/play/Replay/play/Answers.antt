@@ -1,13 +1,13 @@
 use Rattle.std.proofs.Common.{[], refl, sym, ◌∙◌, append-nil, arith}
 use Rattle.replay.proofs.Acting.{made_then, told_as}
-use Rattle.replay.proofs.Playing.{reached_first, reached_line, reached_act, call_some, call_none, call_fault, long, acts_under}
+use Rattle.replay.proofs.Playing.{reached_first, reached_line, reached_act, call_some, call_none, call_stop, long, acts_under}
 use Rattle.replay.proofs.play.Replay.play.Goals as goal
 
 pub loop-command-init : goal.loop-command-init
 loop-command-init g c = (refl, omega arith, λ n log gs a. reached_first _ _ log gs (omega arith) n a)
 
 pub returns-in-Err : goal.returns-in-Err
-returns-in-Err g c = made_then c.write_to.result c.write_to.ensures (λ _ t n log gs a. reached_line _ (told_as _ t c.refused.ensures) (call_fault c.loop-command.rest.now c.in-Err.fault c.in-Err.ensures) (c.loop-command.invariant.2 n log gs a))
+returns-in-Err g c = made_then c.write_to.result c.write_to.ensures (λ _ t n log gs a. reached_line _ (told_as _ t c.refused.ensures) (call_stop c.loop-command.rest.now c.in-Err.stop c.in-Err.ensures) (c.loop-command.invariant.2 n log gs a))
 
 pub returns-in-Ok-None : goal.returns-in-Ok-None
 returns-in-Ok-None g c = λ n log gs a. reached_line [] (sym (append-nil _)) (call_none c.loop-command.rest.now c.in-Ok-None.field-0-is c.in-Ok-None.ensures) (c.loop-command.invariant.2 n log gs a)
