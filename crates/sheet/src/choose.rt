@@ -30,8 +30,9 @@ pub(crate) struct Pick {
     pub(crate) height: Monomial,
 }
 
-// m times variable v. An exponent of 255 stays: no leading monomial of a sheet has one above 40. One exponent is raised,
-// where a product with the variable would go through six. No pair: of the row the monomial is all that is asked.
+// m times variable v. An exponent of 255 stays: no leading monomial of a sheet has one above 40. Not by `Monomial::product`,
+// which has an answer for where an exponent does not fit: here there is none. No pair: of the row the monomial is all that
+// is asked.
 fn raise(m: &Monomial, v: usize) -> Monomial
     requires { Within v width }
     ensures { result.exponents ≡ capped_raise m.now.exponents v }
@@ -55,7 +56,8 @@ fn keep_better<O: Order>(order: &O, pick: Pick, best: &mut Option<Pick>)
     }
 }
 
-// Whether the variable is not multiplicative and the pair is not marked.
+// Whether the variable is not multiplicative and the pair is not marked. The row's lead and the marks are handed on side by
+// side: a type of both would hold nothing that is true of them together.
 fn is_open(lead: &Lead, marks: &Marks, pair: Pair) -> bool
     ensures { result ≡ opens lead.now (rows_of marks.now) pair.row pair.variable }
 {

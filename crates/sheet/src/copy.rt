@@ -14,7 +14,6 @@ ghost use Rattle.sheet.specs.Copying.{row_room, copy_room, RowCopied, RowsCopied
 
 use crate::put::put;
 use crate::rows::Rows;
-use crate::select::select;
 use calls::answer::Copied;
 use calls::refusal::Refusal;
 use field::Field;
@@ -57,7 +56,8 @@ impl CopyBuffer {
     }
 }
 
-// The terms' bytes behind those that are there.
+// The terms' bytes behind those that are there. The room for them is asked for here and in the two functions that lead here,
+// for other amounts: terms, a row, all rows. A type of the bytes with one bound could say none of the first two.
 fn push_terms(terms: &[Term], bytes: &mut Vec<u8>)
     requires { vec_len bytes.old + bytes_needed terms.now ≤ vec_capacity bytes.old }
     ensures items { bytes.new.items ≡ bytes.old.items ++ poly_bytes terms.now }
@@ -121,7 +121,7 @@ impl<F: Field, O: Order, D: Division> Rows<'_, F, O, D> {
         ensures within { MatchResult result (λ c. c.bytes ≤ length out.old) (λ _. out.new ≡ out.old) }
         ensures answer { let S = setting (F.Field.meaning self.now.ring.now.field) (O.Order.meaning self.now.ring.now.order) (D.Division.meaning self.now.division.now) self.now.ring.now.variables in (xs : List (List Bool)) → Sound S (state_of self.now.rows.now xs) → Closed S (state_of self.now.rows.now xs) → FairCopies S (state_of self.now.rows.now xs) out.old (copied result) out.new }
     {
-        select(&self.ring.order, self.rows, &mut buffer.list);
+        self.select(&mut buffer.list);
         self.copy_rows(buffer.list.as_slice(), work, &mut buffer.bytes)?;
         write_copy(buffer.list.len(), buffer.bytes.as_slice(), out)
     }
