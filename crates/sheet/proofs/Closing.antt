@@ -1,5 +1,5 @@
 -- Whether a sheet is closed, from what the search for a pair finds; and its verdict, from the rows' leading monomials.
-use Rattle.std.proofs.Common.{◌≡◌, ℕ, zero, suc, ◌-◌, ◌<◌, ◌≤◌, Bool, true, false, not, ◌||◌, List, [], ◌∷◌, length, get_or, is_some, Some, None, Option, Result, sym, refl, ap, ◌∙◌, subst, ⊎_elim, arith}
+use Rattle.std.proofs.Common.{◌≡◌, ℕ, zero, suc, ◌-◌, ◌<◌, ◌≤◌, Bool, true, false, ◌||◌, List, [], ◌∷◌, length, get_or, is_some, Some, None, Option, Result, sym, refl, ap, ◌∙◌, subst, ⊎_elim, arith}
 use lib.ListN.{length-map}
 use Rattle.std.proofs.lemmas.Bool.{both_ways, or_cases}
 use Rattle.monomial.specs.Monomial.{one, same}
@@ -23,11 +23,7 @@ use Rattle.sheet.proofs.Whole.{Whole}
 use Rattle.sheet.proofs.Choosings.{found_closed, found_chosen}
 use Rattle.sheet.proofs.Mapping.{map_at, element}
 
-none : {A : Type 0} (o : Option A) → true ≡ not (is_some o) → o ≡ None
-none None e = refl
-none (Some x) e = absurd (both_ways true e refl)
-
-some : {A : Type 0} (o : Option A) → false ≡ not (is_some o) → (x : A) × (o ≡ Some x)
+some : {A : Type 0} (o : Option A) → is_some o ≡ true → (x : A) × (o ≡ Some x)
 some None e = absurd (both_ways true (sym e) refl)
 some (Some x) e = (x, refl)
 
@@ -67,13 +63,10 @@ module _ {S : Setting} {rows : List Row} (W : Whole S rows) (xs : List (List Boo
   pub chosen_some : (p : Pick) → Some p ≡ found → Chosen S s p.row p.variable
   chosen_some p f = found_chosen S W.lawful.order W.lawful.variables.1 rows xs W.agrees p (sym f)
 
-  pub closed_none : None ≡ found → Closed S s
-  closed_none f = found_closed S W.lawful.order W.lawful.variables.1 rows xs W.agrees (sym f)
+  pub is_closed : found ≡ None → Closed S s
+  is_closed f = found_closed S W.lawful.order W.lawful.variables.1 rows xs W.agrees f
 
-  pub is_closed : true ≡ not (is_some found) → Closed S s
-  is_closed f = closed_none (sym (none found f))
-
-  pub is_open : false ≡ not (is_some found) → Closed S s → ⊥
+  pub is_open : is_some found ≡ true → Closed S s → ⊥
   is_open f c =
       let x = some found f in
       let C = chosen_some x.0 (sym x.1) in

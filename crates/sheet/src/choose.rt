@@ -2,16 +2,18 @@
 // the lowest row.
 //
 // The contracts say what the code does on every value; that it is the chosen pair is shown of them where a step is made.
-ghost use Rattle.std.specs.Prelude.{◌≡◌, ℕ, ◌≤◌, not, is_some, IfSome, None, vec_len};
+ghost use Rattle.std.specs.Prelude.{◌≡◌, ℕ, ◌≤◌, true, is_some, IfSome, None, MatchResult, vec_len};
 ghost use Rattle.monomial.specs.Division.{Within};
 ghost use Rattle.monomial.specs.Monomial.{width};
 ghost use Rattle.involutive.specs.Sheet.{most_rows};
+ghost use Rattle.calls.specs.declared.refusal.Refusal.TheVariants.{NotClosed};
 ghost use Rattle.sheet.specs.Marks.{rows_of};
 ghost use Rattle.sheet.specs.Choosing.{capped_raise, is_open as opens, better as bettered, consider as considered, scanned, chosen};
 
 use crate::marks::Marks;
 use crate::pair::Pair;
 use crate::sheet::Sheet;
+use calls::refusal::Refusal;
 use field::Field;
 use monomial::Monomial;
 use monomial::division::Division;
@@ -28,8 +30,9 @@ pub(crate) struct Pick {
     pub(crate) height: Monomial,
 }
 
-// m times variable v. An exponent of 255 stays: no leading monomial of a sheet has one above 40. One exponent is raised,
-// where a product with the variable would go through six. No pair: of the row the monomial is all that is asked.
+// m times variable v. An exponent of 255 stays: no leading monomial of a sheet has one above 40. Not by `Monomial::product`,
+// which has an answer for where an exponent does not fit: here there is none. No pair: of the row the monomial is all that
+// is asked.
 fn raise(m: &Monomial, v: usize) -> Monomial
     requires { Within v width }
     ensures { result.exponents ≡ capped_raise m.now.exponents v }
@@ -53,7 +56,8 @@ fn keep_better<O: Order>(order: &O, pick: Pick, best: &mut Option<Pick>)
     }
 }
 
-// Whether the variable is not multiplicative and the pair is not marked.
+// Whether the variable is not multiplicative and the pair is not marked. The row's lead and the marks are handed on side by
+// side: a type of both would hold nothing that is true of them together.
 fn is_open(lead: &Lead, marks: &Marks, pair: Pair) -> bool
     ensures { result ≡ opens lead.now (rows_of marks.now) pair.row pair.variable }
 {
@@ -107,10 +111,13 @@ impl<F: Field, O: Order, D: Division> Sheet<F, O, D> {
         best
     }
 
-    // Whether every pair is marked.
-    pub(crate) fn is_closed(&self) -> bool
-        ensures { result ≡ not (is_some (chosen (O.Order.meaning self.now.ring.order) self.now.ring.variables (rows_of self.now.marks) self.now.table.rows.items 1 None)) }
+    // Refuses while a pair is unmarked.
+    pub(crate) fn check_closed(&self) -> Result<(), Refusal>
+        ensures { let found = chosen (O.Order.meaning self.now.ring.order) self.now.ring.variables (rows_of self.now.marks) self.now.table.rows.items 1 None in MatchResult result (λ _. found ≡ None) (λ refusal. (refusal ≡ NotClosed) × (is_some found ≡ true)) }
     {
-        self.choose().is_none()
+        match self.choose() {
+            None => Ok(()),
+            Some(_) => Err(Refusal::NotClosed),
+        }
     }
 }

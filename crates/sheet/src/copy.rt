@@ -14,7 +14,6 @@ ghost use Rattle.sheet.specs.Copying.{row_room, copy_room, RowCopied, RowsCopied
 
 use crate::put::put;
 use crate::rows::Rows;
-use crate::select::select;
 use calls::answer::Copied;
 use calls::refusal::Refusal;
 use field::Field;
@@ -36,36 +35,51 @@ const ROW_BYTES: usize = (1 + MOST_TERMS) * TERM_BYTES + 1;
 // Room for the bytes of 32 rows.
 const COPY_BYTES: usize = MOST_ROWS * ROW_BYTES;
 
+// The bytes of a copy, with room for those of 32 rows.
+#[derive(Drop)]
+pub(crate) struct CopyBytes {
+    pub(crate) written: Vec<u8>,
+    ghost room: { 11840 ≤ vec_capacity written },
+}
+
+impl CopyBytes {
+    // No bytes, or want of memory.
+    fn new(heap: Global) -> Result<CopyBytes, AllocError>
+        ensures { IfOk result (λ bytes. bytes.written.items ≡ []) }
+    {
+        let written = Vec::with_capacity(heap, COPY_BYTES)?;
+        Ok(CopyBytes { written })
+    }
+
+    // The terms' bytes behind those that are there.
+    fn push_terms(&mut self, terms: &[Term])
+        requires { vec_len self.old.written + bytes_needed terms.now ≤ copy_room }
+        ensures items { self.new.written.items ≡ self.old.written.items ++ poly_bytes terms.now }
+        ensures len { vec_len self.new.written ≡ vec_len self.old.written + bytes_needed terms.now }
+    {
+        for term in terms {
+            let _ = self.written.extend_from_slice(&term_bytes(term));
+        }
+    }
+}
+
 // What a fair copy is made in: the numbers of the rows to copy, and the bytes. The room is taken once and outlives each copy,
 // so it has numbers and no references to rows.
 #[derive(Drop)]
 pub(crate) struct CopyBuffer {
     pub(crate) list: Vec<usize>,
-    pub(crate) bytes: Vec<u8>,
+    pub(crate) bytes: CopyBytes,
     ghost most: { 32 ≤ vec_capacity list },
-    ghost room: { 11840 ≤ vec_capacity bytes },
 }
 
 impl CopyBuffer {
     // An empty buffer, or want of memory.
     pub(crate) fn new(heap: Global) -> Result<CopyBuffer, AllocError>
-        ensures { IfOk result (λ buffer. (buffer.list.items ≡ []) × (buffer.bytes.items ≡ [])) }
+        ensures { IfOk result (λ buffer. (buffer.list.items ≡ []) × (buffer.bytes.written.items ≡ [])) }
     {
         let list = Vec::with_capacity(heap, MOST_ROWS)?;
-        let bytes = Vec::with_capacity(heap, COPY_BYTES)?;
+        let bytes = CopyBytes::new(heap)?;
         Ok(CopyBuffer { list, bytes })
-    }
-}
-
-// The terms' bytes behind those that are there.
-fn push_terms(terms: &[Term], bytes: &mut Vec<u8>)
-    requires { vec_len bytes.old + bytes_needed terms.now ≤ vec_capacity bytes.old }
-    ensures items { bytes.new.items ≡ bytes.old.items ++ poly_bytes terms.now }
-    ensures len { vec_len bytes.new ≡ vec_len bytes.old + bytes_needed terms.now }
-    ensures room { vec_capacity bytes.old ≤ vec_capacity bytes.new }
-{
-    for term in terms {
-        let _ = bytes.extend_from_slice(&term_bytes(term));
     }
 }
 
@@ -80,30 +94,33 @@ fn write_copy(rows: usize, bytes: &[u8], out: &mut [u8]) -> Result<Copied, Refus
 impl<F: Field, O: Order, D: Division> Rows<'_, F, O, D> {
     // The copy of row k: its leading term and what reducing leaves of the others, with room for 39 terms, so that the
     // copy has at most 40.
-    fn copy_row(&self, k: usize, work: &mut Work, bytes: &mut Vec<u8>) -> Result<(), Refusal>
+    fn copy_row(&self, k: usize, work: &mut Work, bytes: &mut CopyBytes) -> Result<(), Refusal>
         requires within { Within k (length self.now.rows.now) }
-        requires room { vec_len bytes.old + row_room ≤ vec_capacity bytes.old }
-        ensures len { vec_len bytes.new ≤ vec_len bytes.old + row_room }
-        ensures room { vec_capacity bytes.old ≤ vec_capacity bytes.new }
-        ensures copy { RowCopied (setting (F.Field.meaning self.now.ring.now.field) (O.Order.meaning self.now.ring.now.order) (D.Division.meaning self.now.division.now) self.now.ring.now.variables) (table_of self.now.rows.now) (line (table_of self.now.rows.now) k) result bytes.old.items bytes.new.items }
+        requires room { vec_len bytes.old.written + row_room ≤ copy_room }
+        ensures len { vec_len bytes.new.written ≤ vec_len bytes.old.written + row_room }
+        ensures copy { RowCopied (setting (F.Field.meaning self.now.ring.now.field) (O.Order.meaning self.now.ring.now.order) (D.Division.meaning self.now.division.now) self.now.ring.now.variables) (table_of self.now.rows.now) (line (table_of self.now.rows.now) k) result bytes.old.written.items bytes.new.written.items }
     {
         let (first, others) = self.rows[k - 1].terms.as_slice().split_at(1);
         // A row has at most 40 terms, so there is room.
         let _ = work.load(others);
         self.reduce(MOST_TERMS - 1, work)?;
-        push_terms(first, bytes);
-        push_terms(work.done.terms.as_slice(), bytes);
-        bytes.push_reserved(END_OF_ROW);
+        bytes.push_terms(first);
+        bytes.push_terms(work.done.terms.as_slice());
+        bytes.written.push_reserved(END_OF_ROW);
         Ok(())
     }
 
     // The copies of the listed rows, which count from 1, up to the first that is denied.
-    fn copy_rows(&self, list: &[usize], work: &mut Work, bytes: &mut Vec<u8>) -> Result<(), Refusal>
-        requires { (length list.now ≤ most_rows) × ((k : ℕ) → Memᴰ k list.now → Within k (length self.now.rows.now)) × (copy_room ≤ vec_capacity bytes.old) }
-        ensures room { copy_room ≤ vec_capacity bytes.new }
-        ensures copies { (xs : List (List Bool)) → RowsCopied (setting (F.Field.meaning self.now.ring.now.field) (O.Order.meaning self.now.ring.now.order) (D.Division.meaning self.now.division.now) self.now.ring.now.variables) (state_of self.now.rows.now xs) list.now result bytes.new.items }
+    fn copy_rows(
+        &self,
+        list: &[usize],
+        work: &mut Work,
+        bytes: &mut CopyBytes,
+    ) -> Result<(), Refusal>
+        requires { (length list.now ≤ most_rows) × ((k : ℕ) → Memᴰ k list.now → Within k (length self.now.rows.now)) }
+        ensures { (xs : List (List Bool)) → RowsCopied (setting (F.Field.meaning self.now.ring.now.field) (O.Order.meaning self.now.ring.now.order) (D.Division.meaning self.now.division.now) self.now.ring.now.variables) (state_of self.now.rows.now xs) list.now result bytes.new.written.items }
     {
-        bytes.clear();
+        bytes.written.clear();
         for k in list {
             self.copy_row(*k, work, bytes)?;
         }
@@ -121,8 +138,8 @@ impl<F: Field, O: Order, D: Division> Rows<'_, F, O, D> {
         ensures within { MatchResult result (λ c. c.bytes ≤ length out.old) (λ _. out.new ≡ out.old) }
         ensures answer { let S = setting (F.Field.meaning self.now.ring.now.field) (O.Order.meaning self.now.ring.now.order) (D.Division.meaning self.now.division.now) self.now.ring.now.variables in (xs : List (List Bool)) → Sound S (state_of self.now.rows.now xs) → Closed S (state_of self.now.rows.now xs) → FairCopies S (state_of self.now.rows.now xs) out.old (copied result) out.new }
     {
-        select(&self.ring.order, self.rows, &mut buffer.list);
+        self.select(&mut buffer.list);
         self.copy_rows(buffer.list.as_slice(), work, &mut buffer.bytes)?;
-        write_copy(buffer.list.len(), buffer.bytes.as_slice(), out)
+        write_copy(buffer.list.len(), buffer.bytes.written.as_slice(), out)
     }
 }

@@ -15,7 +15,7 @@
 // append   a row more
 // settle   reducing by the rows and appending what is left
 // treat    what a step does with its pair
-// put      terms to the front of what was lent
+// put      terms or bytes to the front of what was lent
 // select   the rows of a fair copy
 // copy     the fair copy as bytes
 // unit     whether a row leads with 1

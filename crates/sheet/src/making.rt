@@ -1,5 +1,5 @@
 // The making of a sheet. It takes all the memory that the sheet will ever use.
-ghost use Rattle.std.specs.Prelude.{◌≡◌, [], IfOk, MatchResult};
+ghost use Rattle.std.specs.Prelude.{MatchResult};
 ghost use Rattle.reduction.specs.Table.{setting as setting_of};
 ghost use Rattle.sheet.specs.Making.{Begins, Denies};
 ghost use Rattle.sheet.specs.Marks.{rows_of, state_of};
@@ -15,24 +15,7 @@ use monomial::division::Division;
 use monomial::order::Order;
 use polynomial::ring::Ring;
 use reduction::reduce::Work;
-use std::alloc::{AllocError, Global};
-
-// The memory of a sheet without rows.
-#[derive(Drop)]
-struct Memory {
-    table: Table,
-    work: Work,
-    copy: CopyBuffer,
-}
-
-fn take_memory(heap: Global) -> Result<Memory, AllocError>
-    ensures { IfOk result (λ m. m.table.rows.items ≡ []) }
-{
-    let table = Table::new(heap)?;
-    let work = Work::new(heap)?;
-    let copy = CopyBuffer::new(heap)?;
-    Ok(Memory { table, work, copy })
-}
+use std::alloc::Global;
 
 impl<F: Field + Drop, O: Order + Drop, D: Division + Drop> Sheet<F, O, D> {
     // A sheet without rows.
@@ -42,14 +25,16 @@ impl<F: Field + Drop, O: Order + Drop, D: Division + Drop> Sheet<F, O, D> {
         if ring.variables == 0 || ring.variables > WIDTH {
             return Err(Unmade::Variables);
         }
-        let memory = take_memory(heap).map_err(|_| Unmade::Memory)?;
+        let table = Table::new(heap)?;
+        let work = Work::new(heap)?;
+        let copy = CopyBuffer::new(heap)?;
         Ok(Sheet {
             ring,
             division,
-            table: memory.table,
+            table,
             marks: Marks::none(),
-            work: memory.work,
-            copy: memory.copy,
+            work,
+            copy,
         })
     }
 }

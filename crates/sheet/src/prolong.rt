@@ -18,7 +18,8 @@ use reduction::buffer::Buffer;
 use reduction::refusal::Reason;
 use reduction::scale::scale;
 
-// The variable v by itself; it counts from 1. No pair: there is no row to it.
+// The variable v by itself; it counts from 1. No constant: v is known only when it is asked for. No product either: that has
+// an answer for where an exponent does not fit, and 1 always does. No pair: there is no row to it.
 fn variable(v: usize) -> Monomial
     requires { Within v width }
     ensures { result.exponents ≡ power v }

@@ -37,9 +37,7 @@ impl<F: Field, O: Order, D: Division> Calls for Sheet<F, O, D> {
 
     // The remainder of a polynomial, on a closed sheet.
     fn remainder(&mut self, f: &[Term], out: &mut [Term]) -> Result<usize, Refusal> {
-        if !self.is_closed() {
-            return Err(Refusal::NotClosed);
-        }
+        self.check_closed()?;
         take(&self.ring, f, &mut self.work)?;
         let rows = Rows {
             ring: &self.ring,
@@ -60,9 +58,7 @@ impl<F: Field, O: Order, D: Division> Calls for Sheet<F, O, D> {
 
     // The bytes of the fair copy of a closed sheet.
     fn fair_copy(&mut self, out: &mut [u8]) -> Result<Copied, Refusal> {
-        if !self.is_closed() {
-            return Err(Refusal::NotClosed);
-        }
+        self.check_closed()?;
         let rows = Rows {
             ring: &self.ring,
             division: &self.division,
@@ -73,9 +69,7 @@ impl<F: Field, O: Order, D: Division> Calls for Sheet<F, O, D> {
 
     // Impossible where 1 lies in the ideal: then a row of a closed sheet leads with 1.
     fn verdict(&self) -> Result<Verdict, Refusal> {
-        if !self.is_closed() {
-            return Err(Refusal::NotClosed);
-        }
+        self.check_closed()?;
         if leads_with_one(self.table.rows.as_slice()) {
             Ok(Verdict::Impossible)
         } else {

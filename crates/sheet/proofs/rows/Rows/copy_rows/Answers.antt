@@ -6,17 +6,16 @@ use Rattle.sheet.proofs.rows.Rows.copy_rows.Goals as goal
 pub copy_row-requires-clause-within : goal.copy_row-requires-clause-within
 copy_row-requires-clause-within g c = c.requires.1 _ (entry_member 0 c.args.list.now c.loop-k.k-index c.loop-k-test.true)
 
-pub returns-in_err-copy_row-clause-copies : goal.returns-in_err-copy_row-clause-copies
-returns-in_err-copy_row-clause-copies g c xs =
+pub returns-in_err-copy_row : goal.returns-in_err-copy_row
+returns-in_err-copy_row g c xs =
     let z : c.from_residual.result ≡ Err c.in_err-copy_row.field-0.0 = search rules in
-    rw z (progress_denied c.loop-k-test.true (c.loop-k.invariant.2 xs) c.in_err-copy_row.ensures.copy)
+    rw z (progress_denied c.loop-k-test.true (c.loop-k.invariant.1 xs) c.in_err-copy_row.ensures.copy)
 
 pub loop-k-preserved : goal.loop-k-preserved
 loop-k-preserved g c = (
   omega (arith, c.loop-k.invariant.0, c.copy_row.ensures.len),
-  omega (arith, c.loop-k.invariant.1, c.copy_row.ensures.room),
-  λ xs. progress_more c.loop-k-test.true (c.loop-k.invariant.2 xs) c.in_ok-copy_row.ensures.copy,
+  λ xs. progress_more c.loop-k-test.true (c.loop-k.invariant.1 xs) c.in_ok-copy_row.ensures.copy,
 )
 
-pub returns-clause-copies : goal.returns-clause-copies
-returns-clause-copies g c xs = progress_all (omega arith) (c.loop-k.invariant.2 xs)
+pub returns : goal.returns
+returns g c xs = progress_all (omega arith) (c.loop-k.invariant.1 xs)

@@ -1,8 +1,7 @@
-use Rattle.std.proofs.Common.{◌≡◌, [], vec_items, arith}
+use Rattle.std.proofs.Common.{vec_items, arith}
 use Rattle.involutive.specs.Sheet.{Lawful}
 use Rattle.reduction.specs.Table.{setting}
 use Rattle.sheet.specs.Marks.{rows_of}
-use Rattle.reduction.proofs.Renaming.{kept_ok}
 use Rattle.sheet.proofs.Beginning.{begins}
 use Rattle.sheet.proofs.sheet.Sheet.new.Goals as goal
 
@@ -11,4 +10,4 @@ returns g c =
     let x = c.args.ring in
     let S = setting (g.F.Field.meaning x.field) (g.O.Order.meaning x.order) (g.D.Division.meaning c.args.division) x.variables in
     let W : Lawful S = record { field = g.met.F.Field.laws x.field; order = g.met.O.Order.laws x.order; division = g.met.D.Division.laws c.args.division; variables = (omega arith, omega arith) } in
-    record { made = begins S W (vec_items c.in_ok-memory.memory.table.rows) (rows_of c.none.result) (kept_ok c.take_memory.result c.map_err.result _ (λ m. vec_items m.table.rows ≡ []) c.map_err.ensures.cases c.take_memory.ensures c.in_ok-memory.memory c.in_ok-memory.was) c.none.ensures }
+    record { made = begins S W (vec_items c.in_ok-table.table.rows) (rows_of c.none.result) c.in_ok-table.ensures c.none.ensures }

@@ -6,17 +6,17 @@ use Rattle.std.proofs.lemmas.Bool.Decides.{not_from_Decides}
 use Rattle.sheet.specs.Rows.{lead_of}
 use Rattle.sheet.specs.Selecting.{placed}
 use Rattle.sheet.proofs.Selections.{so_far_none, so_far_more, so_far_same}
-use Rattle.sheet.proofs.select.select.Goals as goal
-use Rattle.sheet.proofs.select.select.Goals.{then-is_minimal, else-is_minimal}
+use Rattle.sheet.proofs.rows.Rows.select.Goals as goal
+use Rattle.sheet.proofs.rows.Rows.select.Goals.{then-is_minimal, else-is_minimal}
 
 pub loop-i-init : goal.loop-i-init
-loop-i-init g c = (search rules, search rules, so_far_none (g.O.Order.meaning c.args.order.now) (map lead_of c.args.rows.now) (vec_items c.clear.new.self) c.clear.ensures.items)
+loop-i-init g c = (search rules, search rules, so_far_none (g.O.Order.meaning c.args.self.now.ring.now.order) (map lead_of c.args.self.now.rows.now) (vec_items c.clear.new.self) c.clear.ensures.items)
 
 pub loop-i-preserved : goal.loop-i-preserved
 loop-i-preserved g c =
-    let O = g.O.Order.meaning c.args.order.now in
-    let Q = g.met.O.Order.laws c.args.order.now in
-    let rows = c.args.rows.now in
+    let O = g.O.Order.meaning c.args.self.now.ring.now.order in
+    let Q = g.met.O.Order.laws c.args.self.now.ring.now.order in
+    let rows = c.args.self.now.rows.now in
     let U = map lead_of rows in
     let i = c.loop-i.i in
     let old = vec_items c.loop-i.list in
