@@ -40,7 +40,8 @@ impl Monomial {
     pub fn product(&self, other: &Monomial) -> Option<Monomial>
         ensures { MatchOption result (Bounded 255 (times self.now.exponents other.now.exponents) → ⊥) (λ m. (m.exponents ≡ times self.now.exponents other.now.exponents) × Bounded 255 (times self.now.exponents other.now.exponents)) }
     {
-        // By index: an array made of a closure has no way out where a sum does not fit.
+        // By index: `try_from_fn` promises that each member comes of a call of its closure, but not that the closure then
+        // held these two monomials, so the proof does not close.
         let mut exponents = [0; WIDTH];
         for i in 0..WIDTH {
             exponents[i] = self.exponents[i].checked_add(other.exponents[i])?;
