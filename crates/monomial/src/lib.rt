@@ -41,7 +41,7 @@ impl Monomial {
         ensures { MatchOption result (Bounded 255 (times self.now.exponents other.now.exponents) → ⊥) (λ m. (m.exponents ≡ times self.now.exponents other.now.exponents) × Bounded 255 (times self.now.exponents other.now.exponents)) }
     {
         // By index: `try_from_fn` promises that each member comes of a call of its closure, but not that the closure then
-        // held these two monomials, so the proof does not close.
+        // held these two monomials, so the proof does not close. An array of sums for `try_map` to open is no plainer.
         let mut exponents = [0; WIDTH];
         for i in 0..WIDTH {
             exponents[i] = self.exponents[i].checked_add(other.exponents[i])?;
