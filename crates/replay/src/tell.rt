@@ -1,8 +1,9 @@
 // The line of each answer.
-ghost use Rattle.std.specs.Prelude.{◌≡◌, ◌≤◌, [], length, IfOk};
+ghost use Rattle.std.specs.Prelude.{◌≡◌, ◌≤◌, [], length, IfOk, MatchResult};
 ghost use Rattle.std.specs.Option.{option_map, unwrap_or};
 ghost use Rattle.calls.specs.Told.{told, added, wrote, copied as copied_as};
 ghost use Rattle.lines.specs.Line.{line, line_text};
+ghost use Rattle.lines.specs.declared.More.TheVariants.{Nothing};
 ghost use Rattle.replay.specs.Grammar.{byte_of, stop_byte, stop_number, no_sheet_number};
 ghost use Rattle.replay.specs.Words.{answered as answered_line, shown as shown_line, copied as copied_line, stepped as stepped_line, refused_line};
 
@@ -48,6 +49,16 @@ fn denied<'a>(at: usize, byte: u8, refusal: Refusal, more: More<'a>) -> Line<'a>
     }
 }
 
+// The line of a command whose call grants a value and what is behind it, or denies it.
+fn answer_line<'a>(at: usize, byte: u8, answer: Result<(usize, More<'a>), Refusal>) -> Line<'a>
+    ensures { MatchResult answer.entry (λ a. result ≡ record { at = at; byte = byte; number = 0; value = a.0; more = a.1 }) (λ r. result ≡ record { at = at; byte = byte; number = (told r).number; value = (told r).place; more = Nothing }) }
+{
+    match answer {
+        Ok((value, more)) => granted(at, byte, value, more),
+        Err(refusal) => denied(at, byte, refusal, More::Nothing),
+    }
+}
+
 // The line of an add or a verdict.
 pub(crate) fn answered(
     at: usize,
@@ -56,10 +67,11 @@ pub(crate) fn answered(
 ) -> Line<'static>
     ensures { line_text result ≡ answered_line at (byte_of command.entry) (added answer) }
 {
-    match answer {
-        Ok(value) => granted(at, command.byte(), value, More::Nothing),
-        Err(refusal) => denied(at, command.byte(), refusal, More::Nothing),
-    }
+    answer_line(
+        at,
+        command.byte(),
+        answer.map(|value| (value, More::Nothing)),
+    )
 }
 
 // The line of a remainder or a row, of which the terms were written to the front of those lent.
@@ -72,10 +84,11 @@ pub(crate) fn shown<'a>(
     requires { IfOk answer (λ n. n ≤ length terms.now) }
     ensures { line_text result ≡ shown_line at (byte_of command.entry) (wrote answer) terms.now }
 {
-    match answer {
-        Ok(n) => granted(at, command.byte(), n, More::Terms(&terms[..n])),
-        Err(refusal) => denied(at, command.byte(), refusal, More::Nothing),
-    }
+    answer_line(
+        at,
+        command.byte(),
+        answer.map(|n| (n, More::Terms(&terms[..n]))),
+    )
 }
 
 // The line of a fair copy, of which the bytes were written to the front of those lent.
@@ -83,11 +96,11 @@ pub(crate) fn copied<'a>(at: usize, answer: Result<Copied, Refusal>, bytes: &'a 
     requires { IfOk answer (λ c. c.bytes ≤ length bytes.now) }
     ensures { line_text result ≡ copied_line at (copied_as answer) bytes.now }
 {
-    let byte = Command::FairCopy.byte();
-    match answer {
-        Ok(done) => granted(at, byte, done.rows, More::Bytes(&bytes[..done.bytes])),
-        Err(refusal) => denied(at, byte, refusal, More::Nothing),
-    }
+    answer_line(
+        at,
+        Command::FairCopy.byte(),
+        answer.map(|done| (done.rows, More::Bytes(&bytes[..done.bytes]))),
+    )
 }
 
 // The line of steps.
