@@ -9,10 +9,8 @@ mod Mapping
 mod Marking
 mod Prolonging
 mod Puttings
-mod Searching
 mod Selections
 mod Settlings
-mod Smallest
 mod Standing
 mod Treating
 pub mod Whole

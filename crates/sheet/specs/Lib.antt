@@ -1,5 +1,5 @@
 pub mod Agreement
-pub mod Choosing
+pub mod Queueing
 pub mod Copying
 pub mod Making
 pub mod Marks

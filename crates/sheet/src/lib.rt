@@ -10,6 +10,7 @@
 // flags    which variables are multiplicative for each row
 // marks    which pairs of a row and a variable are marked
 // pair     a row and a variable
+// queue    the pairs in the order in which steps take them
 // choose   the pair that a step takes
 // prolong  a row times a variable
 // append   a row more
@@ -30,6 +31,7 @@ mod marks;
 mod pair;
 mod prolong;
 mod put;
+mod queue;
 mod rows;
 mod select;
 mod settle;

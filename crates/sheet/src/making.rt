@@ -6,6 +6,7 @@ ghost use Rattle.sheet.specs.Marks.{rows_of, state_of};
 
 use crate::copy::CopyBuffer;
 use crate::marks::Marks;
+use crate::queue::Queue;
 use crate::sheet::Sheet;
 use crate::table::Table;
 use crate::unmade::Unmade;
@@ -26,6 +27,7 @@ impl<F: Field + Drop, O: Order + Drop, D: Division + Drop> Sheet<F, O, D> {
             return Err(Unmade::Variables);
         }
         let table = Table::new(heap)?;
+        let queue = Queue::new(heap)?;
         let work = Work::new(heap)?;
         let copy = CopyBuffer::new(heap)?;
         Ok(Sheet {
@@ -33,6 +35,7 @@ impl<F: Field + Drop, O: Order + Drop, D: Division + Drop> Sheet<F, O, D> {
             division,
             table,
             marks: Marks::none(),
+            queue,
             work,
             copy,
         })

@@ -51,7 +51,7 @@ impl<F: Field, O: Order, D: Division> Rows<'_, F, O, D> {
 }
 
 impl<F: Field, O: Order, D: Division> Sheet<F, O, D> {
-    // Reduces what `work.rest` holds by the rows, and appends what is left. A new row clears all marks.
+    // Reduces what `work.rest` holds by the rows, and appends what is left. A new row clears all marks and joins the queue.
     pub(crate) fn settle(&mut self) -> Result<Settled, Refusal>
         requires { Acceptable (F.Field.meaning self.old.ring.field) (O.Order.meaning self.old.ring.order) self.old.ring.variables self.old.work.rest.terms.items }
         ensures setting { (self.new.ring ≡ self.old.ring) × (self.new.division ≡ self.old.division) }
@@ -69,8 +69,12 @@ impl<F: Field, O: Order, D: Division> Sheet<F, O, D> {
         if left.is_empty() {
             return Ok(Settled::Nothing);
         }
+        let lead = left[0].monomial;
         self.table.append(&self.ring.field, &self.division, left)?;
         self.marks = Marks::none();
+        let row = self.table.rows.len();
+        self.queue
+            .push_row(&self.ring.order, self.ring.variables, row, &lead);
         Ok(Settled::Appended)
     }
 }

@@ -1,16 +1,19 @@
 // A sheet: what it is made of, what it holds, and the memory that its calls use.
-ghost use Rattle.std.specs.Prelude.{◌≡◌, ◌≤◌, Some, None, OnErr, MatchResult};
+ghost use Rattle.std.specs.Prelude.{◌≡◌, ◌≤◌, map, Some, None, OnErr, MatchResult};
 ghost use Rattle.polynomial.specs.declared.refusal.Refusal.{Refusal as Unfit};
 ghost use Rattle.polynomial.specs.Check.{Acceptable, fault};
 ghost use Rattle.involutive.specs.Answers.{Adds};
 ghost use Rattle.calls.specs.Told.{added};
 ghost use Rattle.calls.specs.declared.refusal.Refusal.TheVariants.{Polynomial};
 ghost use Rattle.reduction.specs.Table.{setting, SoundTable};
-ghost use Rattle.sheet.specs.Agreement.{agreement_prop};
+ghost use Rattle.sheet.specs.Agreement.{agreement_prop, queued_prop};
 ghost use Rattle.sheet.specs.Marks.{rows_of, state_of};
+ghost use Rattle.sheet.specs.Queueing.{Queued, Passed};
+ghost use Rattle.sheet.specs.Rows.{lead_of};
 
 use crate::copy::CopyBuffer;
 use crate::marks::Marks;
+use crate::queue::Queue;
 use crate::table::Table;
 use calls::refusal::Refusal;
 use field::Field;
@@ -20,19 +23,22 @@ use polynomial::ring::Ring;
 use polynomial::term::Term;
 use reduction::reduce::Work;
 
-// A table over a ring and a division, which of its pairs are marked, and the buffers of its calls. What the table keeps
-// beside the terms of its rows agrees with them.
+// A table over a ring and a division, which of its pairs are marked, all its pairs in the order in which steps take them, and
+// the buffers of its calls. What the table keeps beside the terms of its rows agrees with them.
 #[derive(Drop)]
 pub struct Sheet<F: Field, O: Order, D: Division> {
     pub(crate) ring: Ring<F, O>,
     pub(crate) division: D,
     pub(crate) table: Table,
     pub(crate) marks: Marks,
+    pub(crate) queue: Queue,
     pub(crate) work: Work,
     pub(crate) copy: CopyBuffer,
     ghost some: { 1 ≤ ring.variables },
     ghost few: { ring.variables ≤ 6 },
     ghost agrees: { SoundTable (setting (F.Field.meaning ring.field) (O.Order.meaning ring.order) (D.Division.meaning division) ring.variables) table.rows.items } by { agreement_prop _ _ },
+    ghost queued: { Queued (O.Order.meaning ring.order) ring.variables (map lead_of table.rows.items) queue.picks.items } by { queued_prop _ _ _ _ },
+    ghost passed: { Passed table.rows.items (rows_of marks) queue.picks.items queue.next },
 }
 
 // Takes up a polynomial that is to be reduced.

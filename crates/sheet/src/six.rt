@@ -31,7 +31,7 @@ impl<F: Field, O: Order, D: Division> Calls for Sheet<F, O, D> {
     fn step(&mut self) -> Result<Step, Refusal> {
         match self.choose() {
             None => Ok(Step::Closed),
-            Some(pick) => self.treat(pick),
+            Some(at) => self.treat(at),
         }
     }
 
