@@ -9,6 +9,7 @@ mod Mapping
 mod Marking
 mod Prolonging
 mod Puttings
+mod Queues
 mod Selections
 mod Settlings
 mod Standing
