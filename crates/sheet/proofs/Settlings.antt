@@ -1,10 +1,10 @@
 -- What became of a polynomial that was reduced and, where something is left of it, appended.
-use Rattle.std.proofs.Common.{◌≡◌, ℕ, ◌<◌, ◌≤◌, Bool, List, [], ◌∷◌, length, Ok, Err, Result, MatchResult, false, eqb, sym, refl, ap, subst, subst₂, arith}
+use Rattle.std.proofs.Common.{◌≡◌, ℕ, ◌<◌, ◌≤◌, Bool, List, [], ◌∷◌, ◌++◌, map, length, Ok, Err, Result, MatchResult, false, eqb, sym, refl, ap, subst, subst₂, arith}
 use mathlib.Core.List.Memᴰ
 use lib.ListN.{length-map}
 use Rattle.std.specs.Result.{IsErrAnd}
 use Rattle.std.proofs.lemmas.Bool.{eqb-false}
-use Rattle.monomial.specs.Monomial.{one}
+use Rattle.monomial.specs.Monomial.{Wide, one}
 use Rattle.polynomial.specs.declared.term.Term.{Term}
 use Rattle.polynomial.specs.Polynomial.{Poly, Over, leading, leading_coefficient}
 use Rattle.polynomial.specs.Check.{Acceptable, Fits, most_terms}
@@ -23,7 +23,7 @@ use Rattle.reduction.specs.declared.table.Row.{Row}
 use Rattle.reduction.specs.Table.{terms_of, table_of, SoundTable}
 use Rattle.sheet.specs.declared.settle.Settled.TheVariants.{Nothing, Appended as SettledAppended}
 use Rattle.sheet.specs.Marks.{marked, state_of}
-use Rattle.sheet.specs.Rows.{Appended}
+use Rattle.sheet.specs.Rows.{lead_of, Appended}
 use Rattle.sheet.specs.Settling.{outcome, Settles, nothing, full, appends}
 use Rattle.sheet.proofs.Whole.{Whole}
 use Rattle.sheet.proofs.Standing.{stands}
@@ -92,3 +92,10 @@ pub denied_outcome : (x : Result (Unit {0}) Denied) (y : Result (Unit {0}) Refus
 denied_outcome (Ok u) y P m q g = ap (λ r. outcome r g) m
 denied_outcome (Err e) (Ok u) P m q g = absurd m
 denied_outcome (Err e) (Err r) P m q g = ap refused (q e r m)
+
+-- the leading monomials after a row more, and that the new one is wide
+pub settle_leads : {S : Setting} {rows new : List Row} {h g : Poly} (len : ℕ) → Rest S rows h g → Says S rows new g (Ok tt) len → Wide (leading g) × (map lead_of new ≡ map lead_of rows ++ (leading g ∷ [])) × (len < most_rows)
+settle_leads {g = []} len R E = absurd (let p = R.some in omega (arith, p))
+settle_leads {S = S} {rows = rows} {new = new} {g = t ∷ g} len R E =
+    let b = says t g R new (Ok tt) len E in
+    (((taken t g R).written.over t (Memᴰ.head refl)).1.wide, b.1.leads, b.0)

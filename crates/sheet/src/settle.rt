@@ -1,5 +1,6 @@
 // Reducing a polynomial by the rows of a sheet, and appending what is left of it: what add and step have in common.
-ghost use Rattle.std.specs.Prelude.{◌≡◌, ◌≤◌, length};
+ghost use Rattle.std.specs.Prelude.{◌≡◌, ◌<◌, ◌≤◌, length};
+ghost use Rattle.polynomial.specs.Polynomial.{leading};
 ghost use Rattle.polynomial.specs.Check.{Acceptable, most_terms};
 ghost use Rattle.involutive.specs.Reduction.{Reduces, refuse};
 ghost use Rattle.calls.specs.Told.{told};
@@ -13,9 +14,11 @@ use crate::rows::Rows;
 use crate::sheet::Sheet;
 use calls::refusal::Refusal;
 use field::Field;
+use monomial::Monomial;
 use monomial::division::Division;
 use monomial::order::Order;
 use polynomial::check::MOST_TERMS;
+use polynomial::term::Term;
 use reduction::reduce::Work;
 use reduction::refusal::{Denied, Reason};
 
@@ -26,6 +29,14 @@ pub(crate) enum Settled {
     Nothing,
     // What was left of it is the last row now.
     Appended,
+}
+
+// The leading monomial of a polynomial that has one.
+fn leader(f: &[Term]) -> Monomial
+    requires { 0 < length f.now }
+    ensures { result.exponents ≡ leading f.now }
+{
+    f[0].monomial
 }
 
 // No `From`: each of the two types belongs to another crate.
@@ -69,7 +80,7 @@ impl<F: Field, O: Order, D: Division> Sheet<F, O, D> {
         if left.is_empty() {
             return Ok(Settled::Nothing);
         }
-        let lead = left[0].monomial;
+        let lead = leader(left);
         self.table.append(&self.ring.field, &self.division, left)?;
         self.marks = Marks::none();
         let row = self.table.rows.len();
