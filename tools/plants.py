@@ -5,7 +5,9 @@
   python3 tools/plants.py --fits        only tells which slips no longer fit the text
 
 A slip is one change of src/, in the style of a mistake that people make. The change is put in, `rt check` runs in the crate, and
-the file is put back. For each a line is printed: refused or survived, and the first thing that the check says of it."""
+the file is put back. For each a line is printed: that it survived; or what refused it, the function and the clause or step that
+does not hold any more; or that only a name is gone which a proof cites (then the slip tells nothing, and another one should
+stand in its place)."""
 import re
 import subprocess
 import sys
@@ -24,9 +26,9 @@ PLANTS = [
      '`||` for `&&`: one code out of range is enough'),
     ('field',
      'src/prime.rt',
-     '        if left % 2 == 1 {',
-     '        if left % 2 == 0 {',
-     'the digit is read the wrong way round'),
+     '            answer = (answer * square) % p;',
+     '            answer = (answer + square) % p;',
+     'a sum in place of a product'),
     ('field',
      'src/prime.rt',
      '        left /= 2;\n',
@@ -105,8 +107,18 @@ PLANTS = [
     ('polynomial',
      'src/bytes.rt',
      '        terms.push(term)?;\n        rest = behind;',
-     '        rest = behind;',
-     'a dropped write'),
+     '        terms.push(Term { coefficient: 1, ..term })?;\n        rest = behind;',
+     'a field is not copied'),
+    ('polynomial',
+     'src/bytes.rt',
+     '        out[at..at + TERM_BYTES].copy_from_slice(&term_bytes(term));',
+     '        out[at..at + TERM_BYTES].copy_from_slice(&term_bytes(&terms[0]));',
+     'each term is written as the first one'),
+    ('polynomial',
+     'src/bytes.rt',
+     '    if out.len() < needed {',
+     '    if out.len() <= needed {',
+     '`<=` for `<`: bytes that just suffice are too few'),
     ('choice',
      'src/choose.rt',
      '        2 if operands.modulus == 4 => choose_variables(operands, task, Four),',
@@ -130,13 +142,23 @@ PLANTS = [
     ('lines',
      'src/lib.rt',
      'write!(f, "{at} {byte:02x} {number} {value}{more}")',
-     'write!(f, "{at} {byte:x} {number} {value}{more}")',
-     'one hexadecimal digit for a small byte'),
+     'write!(f, "{at} {byte:02x} {value} {number}{more}")',
+     'two fields swapped'),
     ('lines',
      'src/lib.rt',
-     '            More::Nothing | More::Bytes([]) | More::Terms([]) => Ok(()),',
-     '            More::Nothing | More::Bytes([]) => Ok(()),',
-     'a missed case: a space before no terms'),
+     '            More::Bytes(bytes) => write!(f, " {}", Hex(bytes)),',
+     '            More::Bytes(bytes) => write!(f, "  {}", Hex(bytes)),',
+     'two spaces'),
+    ('lines',
+     'src/lib.rt',
+     '            write!(f, "{byte:02x}")?;',
+     '            write!(f, "{byte:02X}")?;',
+     'upper-case hexadecimal digits'),
+    ('lines',
+     'src/lib.rt',
+     '        writeln!(text, "{self}").map_err(|_| AllocError)',
+     '        writeln!(text, "{self} ").map_err(|_| AllocError)',
+     'a space at the end of a line'),
     ('lines',
      'src/lib.rt',
      '        for term in self.0 {\n            write!(f, "{}", Hex(&term_bytes(term)))?;',
@@ -203,6 +225,26 @@ PLANTS = [
      '            Ok(&terms[at..])',
      'a term is added twice'),
     ('reduction',
+     'src/reduce.rt',
+     '|reason| Denied { reason, row: k + 1 }',
+     '|reason| Denied { reason, row: k }',
+     'the wrong row number in a refusal'),
+    ('reduction',
+     'src/reduce.rt',
+     '            match find_reducible(table, terms) {\n                None => {',
+     '            match find_reducible(table, terms) {\n                Some((i, _)) if i > 0 => {\n                    let _ = done.extend(terms, most);\n                    return Ok(());\n                }\n                None => {',
+     'a tail is not reduced'),
+    ('reduction',
+     'src/search.rt',
+     "            found = Some((i, k));\n            break 'search;",
+     "            found = Some((i, k));\n            break;",
+     'the last reducible term in place of the first'),
+    ('reduction',
+     'src/room.rt',
+     '            terms: self.terms.saturating_sub(terms),',
+     '            terms: self.terms,',
+     'the terms that are done are left out of the count'),
+    ('reduction',
      'src/scale.rt',
      '    if !fits(&factor.monomial, terms) {\n        return Err(Reason::Wide);\n    }\n',
      '',
@@ -210,7 +252,7 @@ PLANTS = [
     ('sheet',
      'src/settle.rt',
      '        self.marks = Marks::none();\n',
-     '',
+     '        let kept = self.marks;\n        self.marks = Marks::none();\n        self.marks = kept;\n',
      'marks are not cleared'),
     ('sheet',
      'src/append.rt',
@@ -228,10 +270,40 @@ PLANTS = [
      '',
      'a buffer is lost'),
     ('sheet',
-     'src/choose.rt',
-     'order.compare(&pick.height, &old.height).is_lt()',
-     'order.compare(&pick.height, &old.height).is_le()',
+     'src/queue.rt',
+     '!order.compare(&height, &p.height).is_lt()',
+     '!order.compare(&height, &p.height).is_le()',
      'the highest in place of the lowest row at a tie'),
+    ('sheet',
+     'src/queue.rt',
+     '        self.next = 0;\n',
+     '        self.next = self.next;\n',
+     'closed pairs are not looked at again after a new row'),
+    ('sheet',
+     'src/queue.rt',
+     '            let v = i + 1;',
+     '            let v = i.max(1);',
+     'a variable is missing'),
+    ('sheet',
+     'src/treat.rt',
+     '                self.queue.next = at + 1;',
+     '                self.queue.next = at + 2;',
+     'a pair is passed over'),
+    ('sheet',
+     'src/treat.rt',
+     '                self.marks.mark(pair);\n',
+     '',
+     'a dropped write: no mark'),
+    ('sheet',
+     'src/treat.rt',
+     '                self.marks.mark(pair);\n                self.queue.next = at + 1;\n                Ok(Step::Marked)',
+     '                self.marks.mark(pair);\n                self.queue.next = at + 1;\n                Ok(Step::Closed)',
+     'another answer of a step'),
+    ('sheet',
+     'src/choose.rt',
+     '        for at in self.queue.next..self.queue.picks.len() {',
+     '        for at in self.queue.next..self.queue.picks.len().saturating_sub(1).max(self.queue.next) {',
+     'the loop ends one too early'),
     ('sheet',
      'src/flags.rt',
      'ask_all(division, list, i + 1)',
@@ -280,12 +352,27 @@ PLANTS = [
     ('replay',
      'src/play.rt',
      '        let answer = sheet.add(self.gathered.as_slice());\n        self.gathered.clear();',
-     '        let answer = sheet.add(self.gathered.as_slice());\n        if answer.is_ok() { self.gathered.clear(); }',
+     '        let answer = sheet.add(self.gathered.as_slice());\n        let mut kept = Vec::new(*self.gathered.allocator());\n        std::mem::swap(&mut kept, &mut self.gathered);\n        self.gathered.clear();\n        if answer.is_err() { self.gathered = kept; }',
      'terms are kept after a denied add'),
     ('replay',
      'src/play.rt',
+     'const MOST_GATHERED: usize = 41;',
+     'const MOST_GATHERED: usize = 40;',
+     'the first 40 terms are kept in place of 41'),
+    ('replay',
+     'src/play.rt',
+     '            Err(refusal) => return Steps {\n                granted,',
+     '            Err(refusal) => return Steps {\n                granted: granted.saturating_add(1),',
+     'a denied step is counted'),
+    ('replay',
+     'src/tell.rt',
+     '        answer.map(|n| (n, More::Terms(&terms[..n]))),',
+     '        answer.map(|n| (n, More::Terms(terms))),',
+     'all lent terms are told, not those that were written'),
+    ('replay',
+     'src/play.rt',
      'u16::from_be_bytes(*operands)',
-     'u16::from_le_bytes(*operands)',
+     'u16::from_be_bytes([operands[1], operands[0]])',
      'high and low byte swapped'),
     ('replay',
      'src/play.rt',
@@ -350,6 +437,25 @@ PLANTS = [
 ]
 
 
+def reason(said):
+    """The function and the goal that refuse a slip, and whether a goal failed or only a name is gone."""
+    named = None
+    for line in said.split("\n"):
+        step = re.search(r"proofs/([\w/]+)/(?:Answers|Invariants|Measures)\.antt:.*error: (?:`([\w-]+)`)?(.*)", line)
+        if step:
+            gone = re.search(r"has no (field )?`|is not in scope|Given` has no|Goals` has no", step[3]) or step[2] is None
+            if not gone:
+                return f"{step[1].replace('/', '::')}, {step[2]}"
+            named = named or f"only a name: {step[1].replace('/', '::')}"
+        search = re.search(r"fn (\S+): (?:no proof|not proved).*`search` did not prove (.*)", line)
+        if search:
+            return f"{search[1]}, {search[2].replace('`', '')}"
+        note = re.search(r"note: (src/\S+): it is not proved that (.*?)(?:;|$)", line)
+        if note:
+            return f"{note[1]}: {note[2].replace('`', '')}"
+    return named or "not compiled or not read: " + said.strip().split("\n")[-1][:200]
+
+
 def main():
     words = sys.argv[1:]
     for crate, name, old, new, what in PLANTS:
@@ -370,8 +476,8 @@ def main():
         finally:
             with open(path, "w", encoding="utf-8") as it:
                 it.write(text)
-        said = [x for x in (run.stdout + run.stderr).split("\n") if re.search(r"not proved|error|no proof", x)]
-        print(f"{crate}: {what}: {'survived' if run.returncode == 0 else 'refused'}: {(said or [''])[0][:160]}", flush=True)
+        verdict = "survived" if run.returncode == 0 else "refused: " + reason(run.stdout + run.stderr)
+        print(f"{crate}, {name}: {what}: {verdict}", flush=True)
 
 
 main()
