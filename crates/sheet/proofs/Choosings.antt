@@ -1,12 +1,12 @@
--- What the search finds on a sound table is the pair that a step takes, or the sheet is closed.
-use Rattle.std.proofs.Common.{◌≡◌, ℕ, zero, suc, ◌+◌, ◌-◌, ◌<◌, ◌≤◌, min, Bool, true, false, not, ◌&&◌, List, [], ◌∷◌, map, length, get_or, set, replicate, Some, None, Option, sym, refl, ap, ◌∙◌, subst, ap₂, inl, inr, ⊎_elim, arith, length-set}
+-- On a sound table the first open pair of the queue is the pair that a step takes, and where none is open the sheet is closed.
+use Rattle.std.proofs.Common.{◌≡◌, ℕ, zero, suc, ◌+◌, ◌-◌, ◌*◌, ◌<◌, ◌≤◌, min, Bool, true, false, not, ◌&&◌, ◌||◌, ◌⊎◌, eqb, leb, List, [], ◌∷◌, map, length, get_or, set, replicate, Some, Option, Ordering, Less, Equal, Greater, sym, refl, ap, ◌∙◌, subst, ap₂, inl, inr, ⊎_elim, arith, length-set}
 use mathlib.Core.List.Memᴰ
 use lib.ListN.{length-map}
 use Rattle.std.proofs.lemmas.List.{get_or-replicate}
-use Rattle.std.proofs.lemmas.Bool.{cases_Bool, and_parts, both_ways}
+use Rattle.std.proofs.lemmas.Bool.{cases_Bool, cases_eq, cases_lt, and_parts, or_cases, both_ways, eqb-true, leb-true}
 use Rattle.monomial.specs.Monomial.{Wide, width, one, variable, times}
-use Rattle.monomial.specs.Order.{OrderLaws}
-use Rattle.monomial.specs.Division.{Within}
+use Rattle.monomial.specs.Order.{OrderLaws, Under}
+use Rattle.monomial.specs.Division.{Within, member}
 use Rattle.polynomial.specs.Polynomial.{Poly, exponents, leading}
 use Rattle.polynomial.specs.Check.{largest_exponent}
 use Rattle.involutive.specs.Reduction.{row, leaders}
@@ -15,11 +15,11 @@ use Rattle.involutive.specs.Sound.{Row as Good}
 use Rattle.reduction.specs.declared.table.Row.{Row}
 use Rattle.reduction.specs.declared.table.Lead.{Lead}
 use Rattle.reduction.specs.Table.{terms_of, table_of, SoundRow, SoundTable}
-use Rattle.sheet.specs.declared.choose.Pick.{Pick}
+use Rattle.sheet.specs.declared.queue.Pick.{Pick}
 use Rattle.sheet.specs.Marks.{marked, state_of}
-use Rattle.sheet.specs.Choosing.{capped_raise, raised, is_open, chosen}
+use Rattle.sheet.specs.Queueing.{capped_raise, no_lead, lead_at, pick_at, is_open, opens, Passed, Waits, in_turn, has, Queued}
+use Rattle.sheet.specs.Rows.{lead_of}
 use Rattle.sheet.proofs.Mapping.{map_at, element}
-use Rattle.sheet.proofs.Smallest.{Found, Before, choose_found}
 
 some_same : {a b : Bool} → Some a ≡ Some b → a ≡ b
 some_same {a} {b} e = cc
@@ -60,25 +60,41 @@ leading_small : {S : Setting} (f : Poly) (i : ℕ) → i < width → Good S f �
 leading_small [] i h a = let z : get_or one i 0 ≡ 0 = get_or-replicate width i 0 0 h in omega (arith, z)
 leading_small (t ∷ f) i h a = let z : suc i - 1 ≡ i = omega arith in subst (λ j. get_or (exponents t) j 0 ≤ largest_exponent) z (a.acceptable.fits t (Memᴰ.head refl) (suc i))
 
--- ---- the search on a sound table
+-- ---- places in the queue
 
-abbrev nobody : Lead
-nobody = record { monomial = record { exponents = [] }; multiplicative = [] }
+-- where a pair stands
+record Place (picks : List Pick) (k v : ℕ) : Type 0 where
+  index : ℕ
+  inside : index < length picks
+  row_is : (pick_at picks index).row ≡ k
+  variable_is : (pick_at picks index).variable ≡ v
 
-module _ (S : Setting) (Q : OrderLaws S.order) (few : S.variables ≤ width) (rows : List Row) (xs : List (List Bool)) (I : SoundTable S rows) where
+place : (picks : List Pick) (k v : ℕ) → has picks k v ≡ true → Place picks k v
+place [] k v e = absurd (both_ways false refl e)
+place (p ∷ picks) k v e = ⊎_elim
+    (λ a. let b = and_parts (eqb p.row k) (eqb p.variable v) a in record { index = 0; inside = omega arith; row_is = eqb-true p.row k b.0; variable_is = eqb-true p.variable v b.1 })
+    (λ a. let x = place picks k v a in let l = x.inside in record { index = suc x.index; inside = omega (arith, l); row_is = x.row_is; variable_is = x.variable_is })
+    (or_cases (eqb p.row k && eqb p.variable v) (has picks k v) e)
+
+turn_cases : (o : Ordering) (j k : ℕ) → in_turn o j k ≡ true → (o ≡ Less) ⊎ ((o ≡ Equal) × (j ≤ k))
+turn_cases Less j k e = inl refl
+turn_cases Equal j k e = inr (refl, leb-true j k e)
+turn_cases Greater j k e = absurd (both_ways false refl e)
+
+-- ---- the queue of a sound table
+
+module _ (S : Setting) (Q : OrderLaws S.order) (few : S.variables ≤ width) (rows : List Row) (xs : List (List Bool)) (I : SoundTable S rows) (picks : List Pick) (K : Queued S.order S.variables (map lead_of rows) picks) where
   abbrev s : State
   s = state_of rows xs
 
   abbrev N : ℕ
   N = length rows
 
-  abbrev lead : ℕ → Lead
-  lead j = get_or (map (λ r. r.lead) rows) (j - 1) nobody
-
   -- row j of the sheet
   record At (j : ℕ) : Type 0 where
     it : Row
-    is_lead : lead j ≡ it.lead
+    is_lead : lead_at rows j ≡ it.lead
+    is_member : member (map lead_of rows) j ≡ lead_of it
     is_row : row (table_of rows) j ≡ terms_of it
     sound : SoundRow S (table_of rows) (j - 1) it
 
@@ -86,23 +102,18 @@ module _ (S : Setting) (Q : OrderLaws S.order) (few : S.variables ≤ width) (ro
   at j w =
       let h : j - 1 < N = omega (arith, w) in
       let x = element rows (j - 1) h in
-      record { it = x.0; is_lead = map_at (λ r. r.lead) rows (j - 1) x.0 nobody h x.1; is_row = map_at terms_of rows (j - 1) x.0 [] h x.1; sound = I (j - 1) x.0 h x.1 }
+      record { it = x.0; is_lead = map_at (λ r. r.lead) rows (j - 1) x.0 no_lead h x.1; is_member = map_at lead_of rows (j - 1) x.0 [] h x.1; is_row = map_at terms_of rows (j - 1) x.0 [] h x.1; sound = I (j - 1) x.0 h x.1 }
 
   good : (j : ℕ) → Within j N → Good S (row (table_of rows) j)
   good j w = let a = at j w in subst (Good S) (sym a.is_row) a.sound.good
 
-  lead_is : (j : ℕ) → Within j N → (lead j).monomial.exponents ≡ leading (row (table_of rows) j)
-  lead_is j w = let a = at j w in ap (λ l. l.monomial.exponents) a.is_lead ∙ a.sound.lead ∙ ap leading (sym a.is_row)
-
-  height_is : (j u : ℕ) → Within j N → Within u S.variables → raised (lead j) u ≡ height s j u
+  height_is : (j u : ℕ) → Within j N → Within u S.variables → capped_raise (member (map lead_of rows) j) u ≡ height s j u
   height_is j u w v =
+      let a = at j w in
       let m = leading (row (table_of rows) j) in
-      ap (λ x. capped_raise x u) (lead_is j w) ∙ raise_times m u (leading_wide (row (table_of rows) j) (good j w)) (v.0, omega (arith, v, few)) (leading_small (row (table_of rows) j) (u - 1) (omega (arith, v, few)) (good j w))
+      ap (λ x. capped_raise x u) (a.is_member ∙ a.sound.lead ∙ ap leading (sym a.is_row)) ∙ raise_times m u (leading_wide (row (table_of rows) j) (good j w)) (v.0, omega (arith, v, few)) (leading_small (row (table_of rows) j) (u - 1) (omega (arith, v, few)) (good j w))
 
-  wide_at : (j u : ℕ) → Within j N → Within u S.variables → Wide (raised (lead j) u)
-  wide_at j u w v = length-set (lead j).monomial.exponents (u - 1) _ ∙ ap length (lead_is j w) ∙ leading_wide (row (table_of rows) j) (good j w)
-
-  flag : (j u : ℕ) → Within j N → Within u S.variables → S.division (leaders (table_of rows)) j u ≡ Some (get_or (lead j).multiplicative (u - 1) false)
+  flag : (j u : ℕ) → Within j N → Within u S.variables → S.division (leaders (table_of rows)) j u ≡ Some (get_or (lead_at rows j).multiplicative (u - 1) false)
   flag j u w v =
       let a = at j w in
       let z : suc (j - 1) ≡ j = omega (arith, w) in
@@ -111,37 +122,87 @@ module _ (S : Setting) (Q : OrderLaws S.order) (few : S.variables ≤ width) (ro
   rows_there : length (table_of rows) ≡ N
   rows_there = length-map rows terms_of
 
+  leads_there : length (map lead_of rows) ≡ N
+  leads_there = length-map rows lead_of
+
   in_rows : (j : ℕ) → Within j (length (table_of rows)) → Within j N
   in_rows j w = (w.0, subst (λ x. j ≤ x) rows_there w.1)
 
-  open_pair : (j u : ℕ) → Pair S s j u → s.marks j u ≡ false → is_open (lead j) xs j u ≡ true
-  open_pair j u p m = both_not (get_or (lead j).multiplicative (u - 1) false) (marked xs j u) (some_same (sym (flag j u (in_rows j p.at_row) p.at_variable) ∙ p.not_multiplicative)) m
+  -- ---- a place of the queue
 
-  abbrev FoundAll : Option Pick → Type 0
-  FoundAll = Found S.order Q S.variables N xs lead wide_at (suc N) 1 (suc N)
+  row_at : (i : ℕ) → i < length picks → Within (pick_at picks i).row N
+  row_at i h = let w = K.rows i h in (w.0, subst (λ x. (pick_at picks i).row ≤ x) leads_there w.1)
 
-  found : FoundAll (chosen S.order S.variables xs rows 1 None)
-  found = choose_found S.order Q S.variables N xs lead wide_at rows 1 (omega arith) (omega arith)
-      (λ i r h e. let z : i ≡ (1 + i) - 1 = omega arith in sym (map_at (λ r. r.lead) rows i r nobody h e) ∙ ap (λ x. get_or (map (λ r. r.lead) rows) x nobody) z) None
-      (λ j u b o. ⊎_elim (λ x. let y = b.0 in omega (arith, x, y)) (λ x. let y = x.1 in let z = b.1 in omega (arith, y, z)) b.2)
+  height_at : (i : ℕ) → i < length picks → (pick_at picks i).height.exponents ≡ height s (pick_at picks i).row (pick_at picks i).variable
+  height_at i h = K.heights i h ∙ height_is (pick_at picks i).row (pick_at picks i).variable (row_at i h) (K.variables i h)
 
-  seen : (j u : ℕ) → Pair S s j u → Before S.order Q S.variables N xs lead wide_at (suc N) 1 j u
-  seen j u p = let w = in_rows j p.at_row in (w, p.at_variable, inl (omega (arith, w)))
+  wide_at : (i : ℕ) → i < length picks → Wide (pick_at picks i).height.exponents
+  wide_at i h =
+      let p = pick_at picks i in
+      ap length (K.heights i h) ∙ length-set (member (map lead_of rows) p.row) (p.variable - 1) _ ∙ K.wide p.row (K.rows i h)
 
-  pub found_closed : chosen S.order S.variables xs rows 1 None ≡ None → Closed S s
-  found_closed e k v p = ⊎_elim (λ t. t) (λ f. absurd (subst FoundAll e found k v (seen k v p) (open_pair k v p f))) (cases_Bool (marked xs k v))
+  -- an open pair of the sheet, and where it stands in the queue
+  record Stands (j u : ℕ) : Type 0 where
+    place : Place picks j u
+    is_open : opens rows xs (pick_at picks place.index) ≡ true
 
-  pub found_chosen : (p : Pick) → chosen S.order S.variables xs rows 1 None ≡ Some p → Chosen S s p.row p.variable
-  found_chosen p e =
-      let B = subst FoundAll e found in
-      let k = p.row in
-      let v = p.variable in
-      let w : Within k N = B.seen.0 in
-      let x : Within v S.variables = B.seen.1 in
-      let o = and_parts (not (get_or (lead k).multiplicative (v - 1) false)) (not (marked xs k v)) B.opens in
-      let h : p.height.exponents ≡ height s k v = B.height ∙ height_is k v w x in
+  stands : (j u : ℕ) → Pair S s j u → s.marks j u ≡ false → Stands j u
+  stands j u p m =
+      let w = in_rows j p.at_row in
+      let x = place picks j u (K.all j u p.at_variable (inl (w.0, subst (λ z. j ≤ z) (sym leads_there) w.1))) in
+      let f : get_or (lead_at rows j).multiplicative (u - 1) false ≡ false = some_same (sym (flag j u w p.at_variable) ∙ p.not_multiplicative) in
+      record { place = x; is_open = ap₂ (λ a b. is_open (lead_at rows a) xs a b) x.row_is x.variable_is ∙ both_not (get_or (lead_at rows j).multiplicative (u - 1) false) (marked xs j u) f m }
+
+  pub passed_closed : Passed rows xs picks (length picks) → Closed S s
+  passed_closed P k v p = ⊎_elim (λ t. t) (λ f. let x = stands k v p f in absurd (both_ways (opens rows xs (pick_at picks x.place.index)) (P x.place.index x.place.inside) x.is_open)) (cases_Bool (marked xs k v))
+
+  -- the pair at a place that waits
+  record Open (i : ℕ) : Type 0 where
+    pair : Pair S s (pick_at picks i).row (pick_at picks i).variable
+    unmarked : marked xs (pick_at picks i).row (pick_at picks i).variable ≡ false
+
+  open_at : (i : ℕ) → Waits rows xs picks i → Open i
+  open_at i W =
+      let p = pick_at picks i in
+      let w = row_at i W.0 in
+      let v = K.variables i W.0 in
+      let o = and_parts (not (get_or (lead_at rows p.row).multiplicative (p.variable - 1) false)) (not (marked xs p.row p.variable)) W.1 in
       record {
-        pair = record { at_row = (w.0, subst (λ z. k ≤ z) (sym rows_there) w.1); at_variable = x; not_multiplicative = flag k v w x ∙ ap Some (not_true _ o.0) };
+        pair = record { at_row = (w.0, subst (λ z. p.row ≤ z) (sym rows_there) w.1); at_variable = v; not_multiplicative = flag p.row p.variable w v ∙ ap Some (not_true _ o.0) };
         unmarked = not_true _ o.1;
-        smallest = λ j u q m. let d = height_is j u (in_rows j q.at_row) q.at_variable in ⊎_elim (λ l. inl (ap₂ S.order (sym h) (sym d) ∙ l)) (λ l. inr (sym h ∙ l.0 ∙ d, l.1)) (B.least j u (seen j u q) (open_pair j u q m));
       }
+
+  pub waits_open : (i : ℕ) → Waits rows xs picks i → Closed S s → ⊥
+  waits_open i W c = let o = open_at i W in both_ways (marked xs (pick_at picks i).row (pick_at picks i).variable) o.unmarked (c (pick_at picks i).row (pick_at picks i).variable o.pair)
+
+  abbrev NotAbove : ℕ → ℕ → ℕ → Type 0
+  NotAbove i j u = Under S.order (height s (pick_at picks i).row (pick_at picks i).variable) (height s j u) ⊎ ((height s (pick_at picks i).row (pick_at picks i).variable ≡ height s j u) × ((pick_at picks i).row ≤ j))
+
+  -- a place is not above any later one
+  before : (i k : ℕ) → i < k → k < length picks → NotAbove i (pick_at picks k).row (pick_at picks k).variable
+  before i k h l =
+      let b : i < length picks = omega (arith, h, l) in
+      let p = pick_at picks i in
+      let q = pick_at picks k in
+      ⊎_elim
+      (λ e. inl (sym (ap₂ S.order (height_at i b) (height_at k l)) ∙ e))
+      (λ e. inr (sym (height_at i b) ∙ (Q.equal p.height.exponents q.height.exponents (wide_at i b) (wide_at k l)).0 e.0 ∙ height_at k l, e.1))
+      (turn_cases (S.order p.height.exponents q.height.exponents) p.row q.row (K.rises i k h l))
+
+  smallest_at : (i : ℕ) → Passed rows xs picks i → i < length picks → (j u : ℕ) → Pair S s j u → s.marks j u ≡ false → NotAbove i j u
+  smallest_at i P h j u q m =
+      let x = stands j u q m in
+      let k = x.place.index in
+      let r = x.place.row_is in
+      let d = x.place.variable_is in
+      let same : k ≡ i → NotAbove i j u = λ e.
+      let a : (pick_at picks i).row ≡ j = ap (λ z. (pick_at picks z).row) (sym e) ∙ r in
+      let b : (pick_at picks i).variable ≡ u = ap (λ z. (pick_at picks z).variable) (sym e) ∙ d in
+      inr (ap₂ (height s) a b, omega (arith, a)) in
+      ⊎_elim
+      (λ l. absurd (both_ways (opens rows xs (pick_at picks k)) (P k l) x.is_open))
+      (λ g. ⊎_elim same (λ n. subst (λ z. NotAbove i z u) r (subst (NotAbove i (pick_at picks k).row) d (before i k (omega (arith, g, n)) x.place.inside))) (cases_eq k i))
+      (cases_lt k i)
+
+  pub waits_chosen : (i : ℕ) → Passed rows xs picks i → Waits rows xs picks i → Chosen S s (pick_at picks i).row (pick_at picks i).variable
+  waits_chosen i P W = let o = open_at i W in record { pair = o.pair; unmarked = o.unmarked; smallest = smallest_at i P W.0 }

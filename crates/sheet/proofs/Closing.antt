@@ -1,5 +1,5 @@
--- Whether a sheet is closed, from what the search for a pair finds; and its verdict, from the rows' leading monomials.
-use Rattle.std.proofs.Common.{◌≡◌, ℕ, zero, suc, ◌-◌, ◌<◌, ◌≤◌, Bool, true, false, ◌||◌, List, [], ◌∷◌, length, get_or, is_some, Some, None, Option, Result, sym, refl, ap, ◌∙◌, subst, ⊎_elim, arith}
+-- Whether a sheet is closed, from what stands open in the queue; and its verdict, from the rows' leading monomials.
+use Rattle.std.proofs.Common.{◌≡◌, ℕ, zero, suc, ◌-◌, ◌<◌, ◌≤◌, Bool, true, false, ◌||◌, List, [], ◌∷◌, length, get_or, map, Result, sym, refl, ap, ◌∙◌, subst, ⊎_elim, arith}
 use lib.ListN.{length-map}
 use Rattle.std.proofs.lemmas.Bool.{both_ways, or_cases}
 use Rattle.monomial.specs.Monomial.{one, same}
@@ -14,18 +14,14 @@ use Rattle.involutive.proofs.Monomials.{same_true, same_refl}
 use Rattle.involutive.proofs.Verdicts
 use Rattle.reduction.specs.declared.table.Row.{Row}
 use Rattle.reduction.specs.Table.{terms_of, table_of}
-use Rattle.sheet.specs.declared.choose.Pick.{Pick}
-use Rattle.sheet.specs.Choosing.{chosen}
-use Rattle.sheet.specs.Marks.{marked, state_of}
+use Rattle.sheet.specs.declared.queue.Pick.{Pick}
+use Rattle.sheet.specs.Marks.{state_of}
+use Rattle.sheet.specs.Queueing.{pick_at, Passed, Waits, Queued}
 use Rattle.sheet.specs.Rows.{lead_of}
 use Rattle.sheet.specs.Units.{has_unit}
 use Rattle.sheet.proofs.Whole.{Whole}
-use Rattle.sheet.proofs.Choosings.{found_closed, found_chosen}
+use Rattle.sheet.proofs.Choosings
 use Rattle.sheet.proofs.Mapping.{map_at, element}
-
-some : {A : Type 0} (o : Option A) → is_some o ≡ true → (x : A) × (o ≡ Some x)
-some None e = absurd (both_ways true (sym e) refl)
-some (Some x) e = (x, refl)
 
 -- a row that leads with 1
 record UnitAt (rows : List Row) : Type 0 where
@@ -55,22 +51,17 @@ module _ {S : Setting} {rows : List Row} (W : Whole S rows) (xs : List (List Boo
   abbrev s : State
   s = state_of rows xs
 
-  -- ---- what the search for a pair finds
+  -- ---- what stands open in the queue
 
-  abbrev found : Option Pick
-  found = chosen S.order S.variables xs rows 1 None
+  module _ {picks : List Pick} (K : Queued S.order S.variables (map lead_of rows) picks) where
+    pub chosen_some : (i : ℕ) → Passed rows xs picks i → Waits rows xs picks i → Chosen S s (pick_at picks i).row (pick_at picks i).variable
+    chosen_some = Choosings.waits_chosen S W.lawful.order W.lawful.variables.1 rows xs W.agrees picks K
 
-  pub chosen_some : (p : Pick) → Some p ≡ found → Chosen S s p.row p.variable
-  chosen_some p f = found_chosen S W.lawful.order W.lawful.variables.1 rows xs W.agrees p (sym f)
+    pub is_closed : {n : ℕ} → n ≡ length picks → Passed rows xs picks n → Closed S s
+    is_closed e P = Choosings.passed_closed S W.lawful.order W.lawful.variables.1 rows xs W.agrees picks K (subst (Passed rows xs picks) e P)
 
-  pub is_closed : found ≡ None → Closed S s
-  is_closed f = found_closed S W.lawful.order W.lawful.variables.1 rows xs W.agrees f
-
-  pub is_open : is_some found ≡ true → Closed S s → ⊥
-  is_open f c =
-      let x = some found f in
-      let C = chosen_some x.0 (sym x.1) in
-      both_ways (marked xs x.0.row x.0.variable) C.unmarked (c x.0.row x.0.variable C.pair)
+    pub is_open : (i : ℕ) → Waits rows xs picks i → Closed S s → ⊥
+    is_open = Choosings.waits_open S W.lawful.order W.lawful.variables.1 rows xs W.agrees picks K
 
   -- ---- the verdict
 

@@ -67,6 +67,7 @@ impl<F: Field, O: Order, D: Division> Sheet<F, O, D> {
         requires { Acceptable (F.Field.meaning self.old.ring.field) (O.Order.meaning self.old.ring.order) self.old.ring.variables self.old.work.rest.terms.items }
         ensures setting { (self.new.ring ≡ self.old.ring) × (self.new.division ≡ self.old.division) }
         ensures kept { UnlessAppended result ((self.new.table.rows.items ≡ self.old.table.rows.items) × (self.new.marks ≡ self.old.marks)) }
+        ensures queue { UnlessAppended result (self.new.queue ≡ self.old.queue) }
         ensures settles { Settles (setting (F.Field.meaning self.old.ring.field) (O.Order.meaning self.old.ring.order) (D.Division.meaning self.old.division) self.old.ring.variables) (state_of self.old.table.rows.items (rows_of self.old.marks)) self.old.work.rest.terms.items result (state_of self.new.table.rows.items (rows_of self.new.marks)) }
     {
         let rows = Rows {

@@ -16,7 +16,7 @@ returns-in_err-check_closed-clause-answer g c I =
     let t = c.in_err-check_closed.ensures in
     let y : c.from_residual.result ≡ Err c.in_err-check_closed.field-0.0 = search rules in
     let z : c.from_residual.result ≡ Err NotClosed = y ∙ ap Err t.0 in
-    rw z (remainder_open (is_open W (rows_of x.marks) t.1))
+    rw z (remainder_open (is_open W (rows_of x.marks) x.queued t.1 t.2))
 
 pub returns-in_err-check_closed-clause-logged : goal.returns-in_err-check_closed-clause-logged
 returns-in_err-check_closed-clause-logged g c I calls gs a = After.reduced a (returns-in_err-check_closed-clause-answer g c I)
@@ -28,7 +28,7 @@ returns-in_err-take-clause-answer g c I =
     let t = c.in_err-take.ensures in
     let y : c.from_residual-in_err-take.result ≡ Err c.in_err-take.field-0.0 = search rules in
     let z : c.from_residual-in_err-take.result ≡ Err (Polynomial t.0) = y ∙ ap Err t.2 in
-    rw z (remainder_faulty (is_closed W (rows_of x.marks) c.in_ok-check_closed.ensures) t.1)
+    rw z (remainder_faulty (is_closed W (rows_of x.marks) x.queued x.queue.picks.ok.0 c.in_ok-check_closed.ensures) t.1)
 
 pub returns-in_err-take-clause-logged : goal.returns-in_err-take-clause-logged
 returns-in_err-take-clause-logged g c I calls gs a = After.reduced a (returns-in_err-take-clause-answer g c I)
@@ -40,7 +40,7 @@ returns-in_err-reduce-clause-answer g c I =
     let W = whole (g.met.F.Field.laws x.ring.field) (g.met.O.Order.laws x.ring.order) (g.met.D.Division.laws x.division) x.some x.few (vec_items x.table.rows) x.agrees in
     let t = c.in_ok-take.ensures in
     let z : c.from_residual-in_err-reduce.result ≡ Err c.in_err-reduce.field-0.0 = search rules in
-    rw z (remainder_stuck (is_closed W xs c.in_ok-check_closed.ensures) t.1 (at_rows xs c.as_slice.ensures.value t.2 c.in_err-reduce.ensures))
+    rw z (remainder_stuck (is_closed W xs x.queued x.queue.picks.ok.0 c.in_ok-check_closed.ensures) t.1 (at_rows xs c.as_slice.ensures.value t.2 c.in_err-reduce.ensures))
 
 pub returns-in_err-reduce-clause-logged : goal.returns-in_err-reduce-clause-logged
 returns-in_err-reduce-clause-logged g c I calls gs a = After.reduced a (returns-in_err-reduce-clause-answer g c I)
@@ -51,7 +51,7 @@ returns-clause-answer g c I =
     let xs = rows_of x.marks in
     let W = whole (g.met.F.Field.laws x.ring.field) (g.met.O.Order.laws x.ring.order) (g.met.D.Division.laws x.division) x.some x.few (vec_items x.table.rows) x.agrees in
     let t = c.in_ok-take.ensures in
-    remains_put (is_closed W xs c.in_ok-check_closed.ensures) t.1 (at_rows xs c.as_slice.ensures.value t.2 c.in_ok-reduce.ensures) c.put.result c.as_slice-2.ensures.value c.put.ensures
+    remains_put (is_closed W xs x.queued x.queue.picks.ok.0 c.in_ok-check_closed.ensures) t.1 (at_rows xs c.as_slice.ensures.value t.2 c.in_ok-reduce.ensures) c.put.result c.as_slice-2.ensures.value c.put.ensures
 
 pub returns-clause-logged : goal.returns-clause-logged
 returns-clause-logged g c I calls gs a = After.reduced a (returns-clause-answer g c I)
