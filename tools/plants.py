@@ -5,8 +5,9 @@
   python3 tools/plants.py --fits        only tells which slips no longer fit the text
 
 A slip is one change of src/, in the style of a mistake that people make. The change is put in, `rt check` runs in the crate, and
-the file is put back. For each a line is printed: refused or survived, and the first thing that the check says of it. A slip counts
-as refused also where a name is gone or the text does not compile, so only what the check says of it tells whether a fact failed."""
+the file is put back. For each a line is printed: refused or survived, and the first thing that the check says of it. A slip
+counts as refused also where a name is gone or the text does not compile, so only what the check says of it tells whether a
+fact failed."""
 import re
 import subprocess
 import sys
