@@ -22,10 +22,10 @@ pub struct Copied {
     pub bytes: usize,
 }
 
-// Whether the rules of a closed sheet can all be met.
+// What a closed sheet tells of its rules: whether 1 lies in their ideal.
 #[derive(Clone, Copy, PartialEq, Eq, Debug)]
 pub enum Verdict {
-    // 1 does not lie in the ideal.
+    // 1 does not lie in the ideal. That something meets all the rules is not said.
     Possible,
     // 1 lies in the ideal, so nothing meets all the rules.
     Impossible,

@@ -20,8 +20,7 @@ use monomial::order::Order;
 use monomial::thomas::Thomas;
 use polynomial::ring::Ring;
 
-// Something that can be done over any ring and division. What comes of it is what
-// `gives` says.
+// Something that can be done over any ring and division. What comes of it is what `gives` says.
 pub trait Task: Drop {
     type Done;
 
@@ -35,7 +34,7 @@ pub trait Task: Drop {
         ensures { gives self (F.Field.meaning ring.field) (O.Order.meaning ring.order) (D.Division.meaning division) ring.variables result };
 }
 
-// The numbers are read where they become types, here and below, and nowhere else.
+// The numbers become types here and below, and nowhere else.
 //
 // What the task comes to under the field, the order and the division that the operands name, in 1 to 6 variables; or the
 // first of the four that they do not name.

@@ -112,7 +112,7 @@ module _ (S : Setting) (W : Lawful S) where
       sum_remainder p q r i j k h = Algebra.minus_zero B (Algebra.at B p) (Algebra.◌⊕◌ B (Algebra.at B q) (Algebra.at B r)) (Sums.irreducible_zero B chart (span_sum h)
           (λ l a m. Algebra.minus_off B (Algebra.at B p) (Algebra.◌⊕◌ B (Algebra.at B q) (Algebra.at B r)) _ (absent p i l a m) (Algebra.plus_off B (Algebra.at B q) (Algebra.at B r) _ (absent q j l a m) (absent r k l a m))))
 
-      -- the leading monomial of a member has an Tables.involutive S W T G divisor
+      -- the leading monomial of a member has an involutive divisor
       pub lead_divisor : (t : Code F × Mono N) (p : Typed) → Sorted (t ∷ p) → Span B T (Algebra.at B (t ∷ p)) → (k : ℕ) × Involutive D U k t.1.0
       lead_divisor t p s h =
           let q = Tables.sorted_parts S W s in

@@ -20,7 +20,7 @@ module _ (ground : Ground) where
   total (a ∷ more) [] = Algebra.𝟎 B
   total (a ∷ more) (g ∷ gs) = Algebra.◌⊕◌ B (Algebra.act B a (Algebra.at B g)) (total more gs)
 
-  -- a combination of Typing.typed ground polynomials by Typing.typed ground multipliers
+  -- a combination of typed polynomials by typed multipliers
   combined : (xs gs : List Typed) → (c : Typed) × (raw c ≡ combination F (map raw xs) (map raw gs)) × (Algebra.at B c ≡ total xs gs)
   unfolding Algebra.at
   combined [] gs = ([], refl, refl)

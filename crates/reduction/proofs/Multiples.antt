@@ -1,15 +1,13 @@
 -- The terms of −c x^a f, one by one: where no exponent is above 40 they are those of the negated multiple, and that is written.
-use Rattle.std.proofs.Common.{◌≡◌, ℕ, zero, suc, ◌+◌, ◌-◌, ◌<◌, ◌≤◌, min, true, false, leb, List, [], ◌∷◌, ◌++◌, map, length, get_or, take, Ok, Err, Result, MatchResult, sym, refl, ap, ◌∙◌, subst, ⊎_elim, arith, length-take}
-use mathlib.Core.List.{map-append, Memᴰ}
-use lib.ListN.{length-map}
-use Rattle.std.proofs.lemmas.List.{take_more}
+use Rattle.std.proofs.Common.{◌≡◌, ℕ, zero, suc, ◌+◌, ◌-◌, ◌<◌, ◌≤◌, min, true, false, leb, List, [], ◌∷◌, map, length, get_or, sym, refl, ap, ◌∙◌, subst, ⊎_elim, arith}
+use mathlib.Core.List.{Memᴰ}
 use Rattle.std.proofs.lemmas.Bool.{and_parts, and_cases, leb-true, leb-false, le-leb, lt-leb, cases_Bool, both_ways}
 use Rattle.std.specs.List.{zip, list_all}
 use Rattle.field.specs.Field.{FieldMeaning, FieldLaws}
 use Rattle.monomial.specs.Monomial.{Wide, width, In, times, Bounded}
 use Rattle.monomial.specs.Places.{low, agree_all}
 use Rattle.polynomial.specs.declared.term.Term.{Term}
-use Rattle.polynomial.specs.Polynomial.{Poly, term, exponents, Over, Falling, none, single, more, Written}
+use Rattle.polynomial.specs.Polynomial.{Poly, exponents, Over, Falling, none, single, more, Written}
 use Rattle.polynomial.specs.Check.{Fits, largest_exponent}
 use Rattle.involutive.specs.Value.{scaled, negated}
 use Rattle.involutive.proofs.Typing.{Ground}
@@ -94,12 +92,6 @@ module _ (F : FieldMeaning) (L : FieldLaws F) (n : ℕ) where
 
   pub negative_images : (c : ℕ) (a : List ℕ) (f : Poly) → c < F.q → Over F n f → all_small a f ≡ true → map (image F (F.neg c) a) f ≡ negated F (scaled F c a f)
   negative_images c a f p o e = images (F.neg c) a f (L.neg_below c p) o e ∙ scaled_negative c a f p o
-
--- one term more, for which there is room
-pub one_more : {E : Type 0} (I : Term → Term) (f : Poly) (k : ℕ) (x : Term) (out out' : Poly) (res : Result (Unit {0}) E) → k < length f → length f ≤ 40 → out ≡ map I (take k f) → x ≡ I (get_or f k (term 0 [])) → MatchResult res (λ _. (length out < 40) × (out' ≡ out ++ x ∷ [])) (λ _. (40 ≤ length out) × (out' ≡ out)) → out' ≡ map I (take (k + 1) f)
-one_more I f k x out out' (Err u) h l e is d = absurd (let z = d.0 in omega (arith, ap length e, length-map (take k f) I, length-take k f))
-one_more I f k x out out' (Ok u) h l e is d =
-    d.1 ∙ (λ i. e i ++ is i ∷ []) ∙ sym (map-append I (take k f) (get_or f k (term 0 []) ∷ [])) ∙ ap (map I) (sym (take_more f k (term 0 []) h))
 
 -- the negative of what is written is written
 module _ (ground : Ground) where

@@ -1,5 +1,5 @@
 -- Refusals that take another name on the way.
-use Rattle.std.proofs.Common.{◌≡◌, Ok, Err, Result, IfOk, MatchResult, sym, refl, ap, ◌∙◌, subst}
+use Rattle.std.proofs.Common.{◌≡◌, Ok, Err, Result, MatchResult, sym, refl, ap, ◌∙◌, subst}
 use Rattle.std.specs.Result.{is_err, IsErrAnd}
 use Rattle.std.proofs.lemmas.Bool.{false≢true}
 
@@ -16,11 +16,3 @@ pub unrefused : {E D : Type 0} (x : Result (Unit {0}) E) (y : Result (Unit {0}) 
 unrefused (Ok v) y P m u q = refl
 unrefused (Err e) (Ok v) P m u q = absurd m
 unrefused (Err e) (Err b) P m u q = absurd (false≢true (sym (ap is_err q)))
-
-pub kept_ok : {A E D : Type 0} (x : Result A E) (y : Result A D) (P : E → D → Type 0) (Q : A → Type 0) → MatchResult x (λ a. y ≡ Ok a) (λ e. IsErrAnd y (P e)) → IfOk x Q → (a : A) → y ≡ Ok a → Q a
-kept_ok (Ok b) y P Q m h a q = subst Q (ok_same b a (sym m ∙ q)) h
-  where
-    ok_same : {A D : Type 0} (b a : A) → ◌≡◌ {A = Result A D} (Ok b) (Ok a) → b ≡ a
-    ok_same b a q = cc q
-kept_ok (Err e) (Ok b) P Q m h a q = absurd m
-kept_ok (Err e) (Err b) P Q m h a q = absurd (false≢true (sym (ap is_err q)))

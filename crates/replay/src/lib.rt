@@ -4,7 +4,7 @@
 // stop        why a command is not carried out
 // tell        the line of each answer
 // play        the commands after the making, one after the other
-// choose      the making: the line of what the sheet command's codes name, and the commands on a new sheet over that
+// choose      the making: what the sheet command names, and the commands behind it on a sheet over that
 // transcript  a whole command file and its transcript
 #![tactic(auto)]
 

@@ -117,7 +117,7 @@ impl Replay {
         ensures acts { OnOk result (Sound (C.Calls.setting sheet.old) (C.Calls.state sheet.old) → Acts (C.Calls.setting sheet.old) (C.Calls.state sheet.old) self.old.gathered.items at 3 operands.now (C.Calls.state sheet.new) self.new.gathered.items self.old.text.items self.new.text.items) }
     {
         let steps = repeat_step(sheet, u16::from_be_bytes(*operands));
-        stepped(at, operands, steps).write_to(&mut self.text)
+        stepped(at, steps).write_to(&mut self.text)
     }
 
     fn remainder<C: Calls>(&mut self, sheet: &mut C, at: usize) -> Result<(), AllocError>

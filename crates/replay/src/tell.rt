@@ -104,10 +104,10 @@ pub(crate) fn copied<'a>(at: usize, answer: Result<Copied, Refusal>, bytes: &'a 
 }
 
 // The line of steps.
-pub(crate) fn stepped(at: usize, operands: &[u8; 2], steps: Steps) -> Line<'static>
+pub(crate) fn stepped(at: usize, steps: Steps) -> Line<'static>
     ensures { line_text result ≡ stepped_line at steps.granted (option_map told steps.denial) }
 {
-    let byte = Command::Steps(operands).byte();
+    let byte = Command::STEPS;
     let count = usize::from(steps.granted);
     match steps.denial {
         None => granted(at, byte, count, More::Nothing),

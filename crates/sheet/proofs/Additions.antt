@@ -1,9 +1,8 @@
 -- What add answers, from what became of the generator.
-use Rattle.std.proofs.Common.{◌≡◌, ℕ, ◌<◌, ◌≤◌, [], ◌∷◌, length, Some, None, Ok, Err, Option, Result, MatchResult, refl, ap, subst, arith, length-append}
+use Rattle.std.proofs.Common.{◌≡◌, ℕ, ◌<◌, ◌≤◌, [], ◌∷◌, length, None, Ok, Err, Result, MatchResult, subst, arith, length-append}
 use Rattle.monomial.specs.Monomial.{one}
-use Rattle.polynomial.specs.declared.refusal.Refusal.{Refusal as Unfit}
 use Rattle.polynomial.specs.Polynomial.{Poly}
-use Rattle.polynomial.specs.Check.{most_terms, outcome}
+use Rattle.polynomial.specs.Check.{most_terms}
 use Rattle.involutive.specs.Value.{scaled}
 use Rattle.involutive.specs.Sheet.{Setting, State, with_row}
 use Rattle.involutive.specs.Answers.{rows_now, denied, first_fault, Adds, add_stuck, add_zero, add_full, add_row}
@@ -11,14 +10,6 @@ use Rattle.calls.specs.declared.refusal.Refusal.{Refusal}
 use Rattle.calls.specs.Told.{told}
 use Rattle.sheet.specs.declared.settle.Settled.{Settled}
 use Rattle.sheet.specs.Settling.{Settles, stuck, nothing, full, appends}
-
-pub fault_some : (o : Option Unfit) (q : Unfit) → Err q ≡ outcome o → o ≡ Some q
-fault_some None q e = let z : ◌≡◌ {A = ℕ} 0 1 = cc in absurd (omega arith)
-fault_some (Some r) q e = let z : r ≡ q = cc in ap Some z
-
-pub fault_none : (o : Option Unfit) (u : Unit {0}) → Ok u ≡ outcome o → o ≡ None
-fault_none None u e = refl
-fault_none (Some r) u e = let z : ◌≡◌ {A = ℕ} 0 1 = cc in absurd (omega arith)
 
 pub loaded : {E : Type 0} (f old new : Poly) (r : Result (Unit {0}) E) → length f ≤ most_terms → MatchResult r (λ _. (length f ≤ most_terms) × (new ≡ f)) (λ _. (most_terms < length f) × (new ≡ old)) → new ≡ f
 loaded f old new (Ok u) l e = e.1

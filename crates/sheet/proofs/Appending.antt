@@ -7,7 +7,7 @@ use Rattle.std.specs.Result.{is_err}
 use Rattle.std.proofs.lemmas.Bool.{lt-ltb, cond-true, false≢true}
 use Rattle.field.specs.Field.{FieldMeaning, FieldLaws, checked, code, nonzero_code}
 use Rattle.monomial.specs.Division.{Split}
-use Rattle.polynomial.specs.Polynomial.{Poly, Over, exponents, term, leading, leading_coefficient}
+use Rattle.polynomial.specs.Polynomial.{Poly, Over, term, leading_coefficient}
 use Rattle.polynomial.specs.Check.{Fits, most_terms}
 use Rattle.reduction.specs.declared.refusal.Reason.{Reason}
 use Rattle.reduction.specs.declared.refusal.Reason.TheVariants.{Wide, Long}
@@ -15,10 +15,6 @@ use Rattle.reduction.specs.declared.table.Row.{Row}
 use Rattle.reduction.specs.Subtraction.{Unscaled}
 use Rattle.reduction.specs.Table.{terms_of, table_of}
 use Rattle.sheet.specs.Rows.{lead_of, flags_of, Asked, Refreshed, Appended}
-
-pub first_leads : (g : Poly) → 0 < length g → exponents (get_or g 0 (term 0 [])) ≡ leading g
-first_leads [] h = absurd (omega (arith, h))
-first_leads (t ∷ g) h = refl
 
 -- the inverse that is asked for
 pub inverse_is : {F : FieldMeaning} → FieldLaws F → (g : Poly) (n x : ℕ) → 0 < length g → Over F n g → 0 < leading_coefficient g →

@@ -95,10 +95,6 @@ abbrev pub ahead : List Poly → Copied → Copied
 ahead fs (copies gs) = copies (fs ++ gs)
 ahead fs (copy_refused r) = copy_refused r
 
-ahead_none : (o : Copied) → ahead [] o ≡ o
-ahead_none (copies gs) = refl
-ahead_none (copy_refused r) = refl
-
 ahead_more : (fs : List Poly) (f : Poly) (o : Copied) → ahead fs (ahead (f ∷ []) o) ≡ ahead (fs ++ (f ∷ [])) o
 ahead_more fs f (copies gs) = ap copies (sym (append_assoc fs (f ∷ []) gs))
 ahead_more fs f (copy_refused r) = refl
@@ -116,9 +112,6 @@ module _ (S : Setting) (s : State) where
     pub goes : (o : Copied) → Copies S s (drop i ks) o → Copies S s ks (ahead fs o)
 
 module _ {S : Setting} {s : State} where
-  pub progress_none : (ks : List ℕ) (bytes : List ℕ) → bytes ≡ [] → Progress S s ks 0 bytes
-  progress_none ks bytes e = record { fs = []; are = e; counted = refl; goes = λ o c. subst (Copies S s ks) (sym (ahead_none o)) c }
-
   pub progress_more : {ks : List ℕ} {i : ℕ} {old new : List ℕ} → i < length ks → Progress S s ks i old → RowCopied S s.rows (row s.rows (get_or ks i 0)) (Ok tt) old new → Progress S s ks (i + 1) new
   progress_more {ks = ks} {i = i} h P (g, R, n) = record {
     fs = P.fs ++ (copy ∷ []);
@@ -161,7 +154,3 @@ module _ {S : Setting} {s : State} where
       go (Err d) (fs, R, e, n) (p, l, w) =
           let x : denied (refuse 14 (length (copy_bytes fs))) ≡ denied (told d) = ap (λ b. denied (refuse 14 (length b))) (sym e) ∙ ap denied (sym p) in
           subst₂ (FairCopies S s out) x (sym w) (copy_short C P R (subst (λ b. length out < length b) e l))
-
-pub delivered_within : (m : ℕ) (bytes out new : List ℕ) (r : Result Counts Denial) → Delivered m bytes out r new → MatchResult r (λ c. c.bytes ≤ length out) (λ d. new ≡ out)
-delivered_within m bytes out new (Ok c) (p, q, l, w) = omega (arith, q, l)
-delivered_within m bytes out new (Err d) (p, l, w) = w

@@ -1,5 +1,5 @@
 -- What a call promises on a sound sheet, from its answer: the sheet is sound again, and the call enters the log.
-use Rattle.std.proofs.Common.{◌≡◌, ℕ, List, IfErr, Ok, Err, Result, sym, subst, ap₂}
+use Rattle.std.proofs.Common.{◌≡◌, ℕ, Ok, Err, Result, sym, subst, ap₂}
 use Rattle.polynomial.specs.Polynomial.{Poly}
 use Rattle.involutive.specs.Sheet.{Setting, State}
 use Rattle.involutive.specs.Answers.{Adds}
@@ -9,9 +9,6 @@ use Rattle.involutive.specs.Log as log_of
 use Rattle.calls.specs.declared.refusal.Refusal.{Refusal}
 use Rattle.calls.specs.Told.{added}
 use Rattle.calls.specs.Logs.{LoggedAdd}
-use Rattle.reduction.specs.declared.table.Row.{Row}
-use Rattle.sheet.specs.declared.marks.Marks.{Marks}
-use Rattle.sheet.specs.Marks.{rows_of, state_of}
 
 pub log_add : {S : Setting} {s s' : State} {f : Poly} (r : Result ℕ Refusal) → Adds S s f (added r) s' → LoggedAdd S (log_of.add f) f (added r) s s'
 log_add (Ok n) d calls gs a = After.added a d
@@ -20,11 +17,3 @@ log_add (Err e) d calls gs a = After.not_added a d
 -- a ring and a division that stayed make the same setting, in which a sound state is sound
 pub stays_sound : {R D : Type 0} (S : R → D → Setting) {r r' : R} {d d' : D} {s : State} → (r' ≡ r) × (d' ≡ d) → Sound (S r d) s → Sound (S r' d') s
 stays_sound S {s = s} e I = subst (λ x. Sound x s) (sym (ap₂ S e.0 e.1)) I
-
--- rows and marks that stayed make the same state
-pub same_state : (rows rows' : List Row) (m m' : Marks) → rows' ≡ rows → m' ≡ m → state_of rows' (rows_of m') ≡ state_of rows (rows_of m)
-same_state rows rows' m m' e d = ap₂ (λ r x. state_of r (rows_of x)) e d
-
-pub kept_when_refused : {A : Type 0} (r : Result A Refusal) (rows rows' : List Row) (m m' : Marks) → IfErr r (λ _. (rows' ≡ rows) × (m' ≡ m)) → IfErr r (λ _. state_of rows' (rows_of m') ≡ state_of rows (rows_of m))
-kept_when_refused (Ok x) rows rows' m m' e = tt
-kept_when_refused (Err d) rows rows' m m' e = same_state rows rows' m m' e.0 e.1

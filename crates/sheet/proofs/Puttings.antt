@@ -1,5 +1,5 @@
 -- What a remainder and a row answer, from what was put to the front of the lent terms.
-use Rattle.std.proofs.Common.{◌≡◌, ℕ, ◌-◌, ◌≤◌, List, [], length, get_or, None, Ok, Err, Result, sym, subst, subst₂, arith, MatchResult}
+use Rattle.std.proofs.Common.{◌≡◌, ℕ, ◌-◌, ◌≤◌, List, [], length, get_or, None, Ok, Err, Result, sym, subst, subst₂, arith}
 use lib.ListN.{length-map}
 use Rattle.monomial.specs.Division.{Within}
 use Rattle.polynomial.specs.Polynomial.{Poly}
@@ -13,10 +13,6 @@ use Rattle.reduction.specs.declared.table.Row.{Row}
 use Rattle.reduction.specs.Table.{terms_of, table_of}
 use Rattle.sheet.specs.Putting.{Put}
 use Rattle.sheet.proofs.Mapping.{map_at}
-
-pub put_within : (g out : Poly) (r : Result ℕ Refusal) (out' : Poly) → Put g out r out' → MatchResult r (λ n. n ≤ length out) (λ _. out' ≡ out)
-put_within g out (Ok n) out' p = subst (λ m. m ≤ length out) (sym p.0) p.1
-put_within g out (Err d) out' p = p.2
 
 -- what was put is g, which is left of f or row k
 module _ {S : Setting} {s : State} {g h out : Poly} where

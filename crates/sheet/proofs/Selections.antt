@@ -1,13 +1,13 @@
 -- Rows put one after another into a rising list.
-use Rattle.std.proofs.Common.{◌≡◌, ℕ, ◌+◌, ◌-◌, ◌<◌, ◌≤◌, Bool, true, false, cond, ◌⊎◌, List, [], ◌∷◌, ◌++◌, map, length, get_or, take, drop, Decides, MatchBool, Ordering, Less, Equal, Greater, sym, refl, ap, ◌∙◌, subst, ap₂, subst₂, inl, inr, ⊎_elim, append_assoc, arith}
+use Rattle.std.proofs.Common.{◌≡◌, ℕ, ◌+◌, ◌-◌, ◌<◌, ◌≤◌, Bool, true, false, cond, ◌⊎◌, List, [], ◌∷◌, map, length, get_or, Decides, MatchBool, Ordering, Less, Equal, Greater, sym, refl, ap, ◌∙◌, subst, ap₂, subst₂, inl, inr, ⊎_elim, arith}
 use mathlib.Core.List.Memᴰ
 use mathlib.Core.List.{Memᴰ}
 use lib.ListN.{length-map}
 use Rattle.std.specs.List.{insert, enumerate_from, AllWithin, HoldsAt}
 use Rattle.std.proofs.lemmas.List.FromFn.{length-enumerate_from, get_or-enumerate_from}
 use Rattle.std.specs.Ordering.{is_lt, ordering_reverse}
-use Rattle.std.proofs.lemmas.List.{take_more, drop_more, drop_all, get_or-map}
-use Rattle.std.proofs.lemmas.Bool.{cases_eq, cond-true, cond-false, both_ways}
+use Rattle.std.proofs.lemmas.List.{get_or-map}
+use Rattle.std.proofs.lemmas.Bool.{cases_eq, cond-true, both_ways}
 use Rattle.monomial.specs.Monomial.{Wide, Divides}
 use Rattle.monomial.specs.Order.{Compare, OrderLaws, Under}
 use Rattle.monomial.specs.Division.{Within, Distinct, member}
@@ -79,20 +79,6 @@ module _ (rows : List Row) (k : ℕ) (w : Within k (length rows)) (r : Row) (e :
   )
 
 module _ (O : Compare) (U : List (List ℕ)) (k : ℕ) where
-  -- ---- the place of k
-
-  pub place_step : (ks : List ℕ) (i : ℕ) → i < length ks → is_lt (O (member U (get_or ks i 0)) (member U k)) ≡ true → take (i + 1) ks ++ placed O U k (drop (i + 1) ks) ≡ take i ks ++ placed O U k (drop i ks)
-  place_step ks i h e =
-      let x = get_or ks i 0 in
-      let a : placed O U k (drop i ks) ≡ x ∷ placed O U k (drop (i + 1) ks) = ap (placed O U k) (drop_more ks i 0 h) ∙ cond-true _ _ _ e in
-      ap (λ l. l ++ placed O U k (drop (i + 1) ks)) (take_more ks i 0 h) ∙ append_assoc (take i ks) (x ∷ []) (placed O U k (drop (i + 1) ks)) ∙ ap (λ l. take i ks ++ l) (sym a)
-
-  pub place_stop : (ks : List ℕ) (i : ℕ) → i < length ks → is_lt (O (member U (get_or ks i 0)) (member U k)) ≡ false → insert ks i k ≡ take i ks ++ placed O U k (drop i ks)
-  place_stop ks i h e = ap (λ l. take i ks ++ l) (ap (λ l. k ∷ l) (drop_more ks i 0 h) ∙ sym (ap (placed O U k) (drop_more ks i 0 h) ∙ cond-false _ _ _ e))
-
-  pub place_end : (ks : List ℕ) (i : ℕ) → length ks ≤ i → insert ks i k ≡ take i ks ++ placed O U k (drop i ks)
-  place_end ks i h = ap (λ l. take i ks ++ l) (ap (λ l. k ∷ l) (drop_all i ks h) ∙ sym (ap (placed O U k) (drop_all i ks h)))
-
   -- ---- what is in the list then
 
   pub from_placed : (ks : List ℕ) (j : ℕ) → Memᴰ j (placed O U k ks) → (j ≡ k) ⊎ Memᴰ j ks
@@ -177,9 +163,6 @@ module _ (O : Compare) (Q : OrderLaws O) (U : List (List ℕ)) (i : ℕ) (old ne
 
   pub so_far_same : (Undivided U (i + 1) → ⊥) → new ≡ old → SoFar O U (i + 1) new
   so_far_same u e = subst (SoFar O U (i + 1)) (sym e) (picks_same O U i old I.0 u, I.1)
-
-pub so_far_all : (O : Compare) (U : List (List ℕ)) (i n : ℕ) (ks : List ℕ) → i ≡ n → SoFar O U i ks → SoFar O U n ks
-so_far_all O U i n ks e I = subst (λ x. SoFar O U x ks) e I
 
 -- ---- on a sound sheet these are the rows to copy
 
