@@ -1,5 +1,5 @@
 -- On a sound table the first open pair of the queue is the pair that a step takes, and where none is open the sheet is closed.
-use Rattle.std.proofs.Common.{◌≡◌, ℕ, zero, suc, ◌+◌, ◌-◌, ◌*◌, ◌<◌, ◌≤◌, min, Bool, true, false, not, ◌&&◌, ◌||◌, ◌⊎◌, eqb, leb, List, [], ◌∷◌, map, length, get_or, set, replicate, Some, Option, Ordering, Less, Equal, Greater, sym, refl, ap, ◌∙◌, subst, ap₂, inl, inr, ⊎_elim, arith, length-set}
+use Rattle.std.proofs.Common.{◌≡◌, ℕ, zero, suc, ◌+◌, ◌-◌, ◌<◌, ◌≤◌, min, Bool, true, false, not, ◌&&◌, ◌⊎◌, eqb, List, [], ◌∷◌, map, length, get_or, set, replicate, Some, Ordering, Less, Equal, Greater, sym, refl, ap, ◌∙◌, subst, ap₂, inl, inr, ⊎_elim, arith, length-set}
 use mathlib.Core.List.Memᴰ
 use lib.ListN.{length-map}
 use Rattle.std.proofs.lemmas.List.{get_or-replicate}
@@ -13,7 +13,6 @@ use Rattle.involutive.specs.Reduction.{row, leaders}
 use Rattle.involutive.specs.Sheet.{Setting, State, Pair, Closed, Chosen, height}
 use Rattle.involutive.specs.Sound.{Row as Good}
 use Rattle.reduction.specs.declared.table.Row.{Row}
-use Rattle.reduction.specs.declared.table.Lead.{Lead}
 use Rattle.reduction.specs.Table.{terms_of, table_of, SoundRow, SoundTable}
 use Rattle.sheet.specs.declared.queue.Pick.{Pick}
 use Rattle.sheet.specs.Marks.{marked, state_of}

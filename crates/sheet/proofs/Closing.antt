@@ -1,6 +1,7 @@
 -- Whether a sheet is closed, from what stands open in the queue; and its verdict, from the rows' leading monomials.
 use Rattle.std.proofs.Common.{◌≡◌, ℕ, zero, suc, ◌-◌, ◌<◌, ◌≤◌, Bool, true, false, ◌||◌, List, [], ◌∷◌, length, get_or, map, Result, sym, refl, ap, ◌∙◌, subst, ⊎_elim, arith}
 use lib.ListN.{length-map}
+use Rattle.std.proofs.lemmas.List.{get_or_read}
 use Rattle.std.proofs.lemmas.Bool.{both_ways, or_cases}
 use Rattle.monomial.specs.Monomial.{one, same}
 use Rattle.polynomial.specs.Polynomial.{leading}
@@ -16,7 +17,7 @@ use Rattle.reduction.specs.declared.table.Row.{Row}
 use Rattle.reduction.specs.Table.{terms_of, table_of}
 use Rattle.sheet.specs.declared.queue.Pick.{Pick}
 use Rattle.sheet.specs.Marks.{state_of}
-use Rattle.sheet.specs.Queueing.{pick_at, Passed, Waits, Queued}
+use Rattle.sheet.specs.Queueing.{no_pick, Passed, Waits, Queued}
 use Rattle.sheet.specs.Rows.{lead_of}
 use Rattle.sheet.specs.Units.{has_unit}
 use Rattle.sheet.proofs.Whole.{Whole}
@@ -54,8 +55,9 @@ module _ {S : Setting} {rows : List Row} (W : Whole S rows) (xs : List (List Boo
   -- ---- what stands open in the queue
 
   module _ {picks : List Pick} (K : Queued S.order S.variables (map lead_of rows) picks) where
-    pub chosen_some : (i : ℕ) → Passed rows xs picks i → Waits rows xs picks i → Chosen S s (pick_at picks i).row (pick_at picks i).variable
-    chosen_some = Choosings.waits_chosen S W.lawful.order W.lawful.variables.1 rows xs W.agrees picks K
+    -- p is what reading the queue at place i gives
+    pub chosen_some : (i : ℕ) (p : Pick) → Passed rows xs picks i → Waits rows xs picks i → p ≡ get_or picks i p → Chosen S s p.row p.variable
+    chosen_some i p P w e = subst (λ q. Chosen S s q.row q.variable) (sym (get_or_read picks i p w.0 e no_pick)) (Choosings.waits_chosen S W.lawful.order W.lawful.variables.1 rows xs W.agrees picks K i P w)
 
     pub is_closed : {n : ℕ} → n ≡ length picks → Passed rows xs picks n → Closed S s
     is_closed e P = Choosings.passed_closed S W.lawful.order W.lawful.variables.1 rows xs W.agrees picks K (subst (Passed rows xs picks) e P)

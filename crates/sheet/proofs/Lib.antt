@@ -7,6 +7,7 @@ mod FairCopying
 mod Logging
 mod Mapping
 mod Marking
+mod Passing
 mod Prolonging
 mod Puttings
 mod Queues

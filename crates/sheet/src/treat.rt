@@ -17,7 +17,8 @@ use monomial::division::Division;
 use monomial::order::Order;
 
 impl<F: Field, O: Order, D: Division> Sheet<F, O, D> {
-    // Takes the first open pair, by its place in the queue, and reduces its row times its variable: zero marks the pair, and what else is left becomes a row.
+    // Takes the first open pair, by its place in the queue, and reduces its row times its variable: zero marks the pair, and
+    // what else is left becomes a row.
     pub(crate) fn treat(&mut self, at: usize) -> Result<Step, Refusal>
         requires passed { Passed self.old.table.rows.items (rows_of self.old.marks) self.old.queue.picks.items at }
         requires waits { Waits self.old.table.rows.items (rows_of self.old.marks) self.old.queue.picks.items at }

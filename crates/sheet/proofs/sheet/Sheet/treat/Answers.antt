@@ -1,34 +1,43 @@
-use Rattle.std.proofs.Common.{◌≡◌, Err, vec_items, ap, ◌∙◌, rules}
+use Rattle.std.proofs.Common.{◌≡◌, ◌<◌, Err, length, vec_items, vec_len, ap, ◌∙◌, arith, rules}
 use borrow.Author.Tests.{tests}
 use Rattle.calls.specs.declared.refusal.Refusal.TheVariants.{Wide}
 use Rattle.reduction.proofs.Renaming.{renamed, unrefused}
 use Rattle.sheet.specs.Marks.{rows_of, state_of}
+use Rattle.sheet.specs.Queueing.{Passed}
+use Rattle.sheet.proofs.Closing.{chosen_some}
+use Rattle.sheet.proofs.Passing.{unappended, passed_more}
 use Rattle.sheet.proofs.Whole.{whole}
 use Rattle.sheet.proofs.Treating.{prolonged_of, acceptable, treat_wide, treat_denied, treat_marked, treat_appended}
 use Rattle.sheet.proofs.sheet.Sheet.treat.Goals as goal
 
 pub returns-in_err-map_err-clause-treats : goal.returns-in_err-map_err-clause-treats
 returns-in_err-map_err-clause-treats g c =
+    let x = c.args.self.now in
+    let W = whole (g.met.F.Field.laws x.ring.field) (g.met.O.Order.laws x.ring.order) (g.met.D.Division.laws x.division) x.some x.few (vec_items x.table.rows) x.agrees in
+    let p = c.index-pick.result.now in
+    let C = chosen_some W (rows_of x.marks) x.queued c.args.at p c.requires.passed c.requires.waits c.index-pick.ensures in
     let d = c.in_err-map_err.field-0.0 in
     let e = renamed c.prolong.result c.map_err.result _ c.map_err.ensures.cases d c.in_err-map_err.was in
     let q = e.2 in
-    let is : d ≡ Wide c.args.pick.row = search (rules, tests) in
+    let is : d ≡ Wide p.row = search (rules, tests) in
     let y : c.from_residual.result ≡ Err d = search rules in
-    let z : c.from_residual.result ≡ Err (Wide c.args.pick.row) = y ∙ ap Err is in
-    rw z (treat_wide (rows_of c.args.self.now.marks) c.requires.chosen c.prolong.result (vec_items c.prolong.new.out.terms) c.as_slice.ensures.value c.prolong.ensures e.0 e.1)
+    let z : c.from_residual.result ≡ Err (Wide p.row) = y ∙ ap Err is in
+    rw z (treat_wide (rows_of x.marks) C c.prolong.result (vec_items c.prolong.new.out.terms) c.as_slice.ensures.value c.prolong.ensures e.0 e.1)
 
 pub settle-requires : goal.settle-requires
 settle-requires g c =
     let x = c.args.self.now in
     let W = whole (g.met.F.Field.laws x.ring.field) (g.met.O.Order.laws x.ring.order) (g.met.D.Division.laws x.division) x.some x.few (vec_items x.table.rows) x.agrees in
-    let P = prolonged_of W c.requires.chosen c.prolong.result (vec_items c.prolong.new.out.terms) c.as_slice.ensures.value c.prolong.ensures (unrefused c.prolong.result c.map_err.result _ c.map_err.ensures.cases c.in_ok-map_err.field-0 c.in_ok-map_err.was) in
+    let C = chosen_some W (rows_of x.marks) x.queued c.args.at c.index-pick.result.now c.requires.passed c.requires.waits c.index-pick.ensures in
+    let P = prolonged_of W C c.prolong.result (vec_items c.prolong.new.out.terms) c.as_slice.ensures.value c.prolong.ensures (unrefused c.prolong.result c.map_err.result _ c.map_err.ensures.cases c.in_ok-map_err.field-0 c.in_ok-map_err.was) in
     acceptable P
 
 pub returns-in_err-settle-clause-treats : goal.returns-in_err-settle-clause-treats
 returns-in_err-settle-clause-treats g c =
     let x = c.args.self.now in
     let W = whole (g.met.F.Field.laws x.ring.field) (g.met.O.Order.laws x.ring.order) (g.met.D.Division.laws x.division) x.some x.few (vec_items x.table.rows) x.agrees in
-    let P = prolonged_of W c.requires.chosen c.prolong.result (vec_items c.prolong.new.out.terms) c.as_slice.ensures.value c.prolong.ensures (unrefused c.prolong.result c.map_err.result _ c.map_err.ensures.cases c.in_ok-map_err.field-0 c.in_ok-map_err.was) in
+    let C = chosen_some W (rows_of x.marks) x.queued c.args.at c.index-pick.result.now c.requires.passed c.requires.waits c.index-pick.ensures in
+    let P = prolonged_of W C c.prolong.result (vec_items c.prolong.new.out.terms) c.as_slice.ensures.value c.prolong.ensures (unrefused c.prolong.result c.map_err.result _ c.map_err.ensures.cases c.in_ok-map_err.field-0 c.in_ok-map_err.was) in
     let y = c.settle.new.self in
     let d = c.in_err-settle.field-0.0 in
     let z : c.from_residual-in_err-settle.result ≡ Err d = search rules in
@@ -38,7 +47,8 @@ pub returns-in-Nothing-clause-treats : goal.returns-in-Nothing-clause-treats
 returns-in-Nothing-clause-treats g c =
     let x = c.args.self.now in
     let W = whole (g.met.F.Field.laws x.ring.field) (g.met.O.Order.laws x.ring.order) (g.met.D.Division.laws x.division) x.some x.few (vec_items x.table.rows) x.agrees in
-    let P = prolonged_of W c.requires.chosen c.prolong.result (vec_items c.prolong.new.out.terms) c.as_slice.ensures.value c.prolong.ensures (unrefused c.prolong.result c.map_err.result _ c.map_err.ensures.cases c.in_ok-map_err.field-0 c.in_ok-map_err.was) in
+    let C = chosen_some W (rows_of x.marks) x.queued c.args.at c.index-pick.result.now c.requires.passed c.requires.waits c.index-pick.ensures in
+    let P = prolonged_of W C c.prolong.result (vec_items c.prolong.new.out.terms) c.as_slice.ensures.value c.prolong.ensures (unrefused c.prolong.result c.map_err.result _ c.map_err.ensures.cases c.in_ok-map_err.field-0 c.in_ok-map_err.was) in
     let y = c.settle.new.self in
     treat_marked P c.in_ok-settle.field-0 (vec_items y.table.rows) (rows_of y.marks) (rows_of c.mark.new.self) c.in-Nothing.is c.in_ok-settle.ensures.settles c.mark.ensures
 
@@ -46,6 +56,26 @@ pub returns-in-Appended-clause-treats : goal.returns-in-Appended-clause-treats
 returns-in-Appended-clause-treats g c =
     let x = c.args.self.now in
     let W = whole (g.met.F.Field.laws x.ring.field) (g.met.O.Order.laws x.ring.order) (g.met.D.Division.laws x.division) x.some x.few (vec_items x.table.rows) x.agrees in
-    let P = prolonged_of W c.requires.chosen c.prolong.result (vec_items c.prolong.new.out.terms) c.as_slice.ensures.value c.prolong.ensures (unrefused c.prolong.result c.map_err.result _ c.map_err.ensures.cases c.in_ok-map_err.field-0 c.in_ok-map_err.was) in
+    let C = chosen_some W (rows_of x.marks) x.queued c.args.at c.index-pick.result.now c.requires.passed c.requires.waits c.index-pick.ensures in
+    let P = prolonged_of W C c.prolong.result (vec_items c.prolong.new.out.terms) c.as_slice.ensures.value c.prolong.ensures (unrefused c.prolong.result c.map_err.result _ c.map_err.ensures.cases c.in_ok-map_err.field-0 c.in_ok-map_err.was) in
     let y = c.settle.new.self in
     treat_appended P c.in_ok-settle.field-0 (state_of (vec_items y.table.rows) (rows_of y.marks)) c.in-Appended.is c.in_ok-settle.ensures.settles
+
+pub invariant_of-self-in-Nothing : goal.invariant_of-self-in-Nothing
+invariant_of-self-in-Nothing g c =
+    let q = unappended c.in_ok-settle.field-0 c.in-Nothing.is c.in_ok-settle.ensures.queue in
+    let n : vec_len c.settle.new.self.queue.picks ≡ vec_len c.args.self.now.queue.picks = ap (λ z. vec_len z.picks) q in
+    let k = c.args.self.now.queue.picks.ok.0 in
+    let w = c.requires.waits.0 in
+    record { room = c.settle.new.self.queue.room; inside = omega (arith, n, k, w) }
+
+pub invariant_of-self-in-Nothing-2 : goal.invariant_of-self-in-Nothing-2
+invariant_of-self-in-Nothing-2 g c =
+    let x = c.args.self.now in
+    let y = c.settle.new.self in
+    let k = unappended c.in_ok-settle.field-0 c.in-Nothing.is c.in_ok-settle.ensures.kept in
+    let q = unappended c.in_ok-settle.field-0 c.in-Nothing.is c.in_ok-settle.ensures.queue in
+    let P : Passed (vec_items y.table.rows) (rows_of y.marks) (vec_items y.queue.picks) c.args.at = rw (k.0, k.1, q) c.requires.passed in
+    let h : c.args.at < length (vec_items y.queue.picks) = rw q c.requires.waits.0 in
+    let e : c.index-pick.result.now ≡ _ = c.index-pick.ensures in
+    record { some = y.some; few = y.few; agrees = y.agrees; queued = y.queued; passed = passed_more (vec_items y.table.rows) (rows_of y.marks) (rows_of c.mark.new.self) (vec_items y.queue.picks) c.args.at c.index-pick.result.now P h (rw q e) c.mark.ensures }
