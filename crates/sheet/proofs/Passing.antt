@@ -1,6 +1,6 @@
 -- A mark closes its pair and opens none: so where all pairs before a place of the queue were passed, marking the pair there
 -- passes one more.
-use Rattle.std.proofs.Common.{◌≡◌, ℕ, ◌+◌, ◌-◌, ◌<◌, Bool, true, false, not, ◌&&◌, ◌||◌, eqb, List, length, get_or, Ok, refl, ap, ap₂, ◌∙◌, subst}
+use Rattle.std.proofs.Common.{below_more, ◌≡◌, ℕ, ◌+◌, ◌-◌, ◌<◌, Bool, true, false, not, ◌&&◌, ◌||◌, eqb, List, length, get_or, Ok, refl, ap, ap₂, ◌∙◌, subst}
 use Rattle.std.proofs.lemmas.List.{get_or_read}
 use Rattle.std.proofs.lemmas.Bool.{eq-eqb}
 use Rattle.reduction.specs.declared.table.Row.{Row}
@@ -10,7 +10,6 @@ use Rattle.sheet.specs.declared.settle.Settled.{Settled}
 use Rattle.sheet.specs.Marks.{marked}
 use Rattle.sheet.specs.Queueing.{no_pick, lead_at, pick_at, opens, Passed}
 use Rattle.sheet.specs.Settling.{UnlessAppended}
-use Rattle.sheet.proofs.Mapping.{below_more}
 
 -- where nothing was left, no row was appended
 pub unappended : {P : Type 0} (x : Settled) → x ≡ Nothing → UnlessAppended (Ok x) P → P

@@ -1,15 +1,14 @@
 -- Pairs put into the queue one after another.
-use Rattle.std.proofs.Common.{◌≡◌, ℕ, zero, suc, ◌+◌, ◌-◌, ◌*◌, ◌<◌, ◌≤◌, Bool, true, false, not, ◌&&◌, ◌||◌, eqb, leb, ◌⊎◌, List, [], ◌∷◌, ◌++◌, length, get_or, Ordering, Less, Equal, Greater, sym, refl, ap, ◌∙◌, subst, ap₂, subst₂, inl, inr, ⊎_elim, arith, length-set, length-append}
-use Rattle.std.specs.List.{insert, AllWithin}
+use Rattle.std.proofs.Common.{◌≡◌, ℕ, zero, suc, ◌+◌, ◌-◌, ◌<◌, ◌≤◌, Bool, true, false, not, ◌&&◌, ◌||◌, eqb, List, [], ◌∷◌, ◌++◌, length, get_or, Ordering, Less, Equal, Greater, sym, refl, ap, ◌∙◌, subst, ap₂, subst₂, inl, inr, ⊎_elim, arith, length-set, length-append}
+use Rattle.std.specs.List.{insert}
 use Rattle.std.specs.List.Sorted.{IsPartitionedBy, IsPartitionPoint}
 use Rattle.std.specs.Ordering.{is_lt, ordering_reverse}
 use Rattle.std.proofs.lemmas.List.Edits.{get_or-insert_at, get_or-insert_below, get_or-insert_above, length-insert}
 use Rattle.std.proofs.lemmas.List.{get_or_append_left, get_or_push}
 use Rattle.std.proofs.lemmas.Bool.{cases_eq, cases_lt, both_ways, eq-eqb, or_cases, le-leb}
 use Rattle.monomial.specs.Monomial.{Wide, width}
-use Rattle.monomial.specs.Order.{Compare, OrderLaws, Under}
+use Rattle.monomial.specs.Order.{Compare, OrderLaws}
 use Rattle.monomial.specs.Division.{Within, member}
-use Rattle.involutive.specs.Sheet.{most_rows}
 use Rattle.sheet.specs.declared.queue.Pick.{Pick}
 use Rattle.sheet.specs.Queueing.{capped_raise, no_pick, pick_at, in_turn, has, Filled, Queued}
 
@@ -152,12 +151,12 @@ module _ (O : Compare) (Q : OrderLaws O) (n : ℕ) (leads : List (List ℕ)) (N 
     variables = each picks at p h (λ x. Within x.variable n) F.variables w;
     heights = each picks at p h (λ x. x.height.exponents ≡ capped_raise (member leads x.row) x.variable) F.heights e;
     rises = each_two picks at p h (Turn O) F.rises
-      (λ i b. let m : i < length picks = omega (arith, b, h) in behind O Q (pick_at picks i).height.exponents p.height.exponents (pick_at picks i).row p.row (tall i m) tall_new (omega (arith, F.rows i m, r, l)) (f i no_pick (omega arith) b))
-      (λ i a b. before O Q (pick_at picks i).height.exponents p.height.exponents p.row (pick_at picks i).row (g i no_pick a b));
+        (λ i b. let m : i < length picks = omega (arith, b, h) in behind O Q (pick_at picks i).height.exponents p.height.exponents (pick_at picks i).row p.row (tall i m) tall_new (omega (arith, F.rows i m, r, l)) (f i no_pick (omega arith) b))
+        (λ i a b. before O Q (pick_at picks i).height.exponents p.height.exponents p.row (pick_at picks i).row (g i no_pick a b));
     all = λ k v x s. ⊎_elim (λ y. has_old picks at p k v (F.all k v x (inl y))) (λ y. ⊎_elim
-      (λ d. has_new picks at p k v (ap₂ (λ a b. a && b) (eq-eqb p.row k (omega (arith, r, y.0))) (eq-eqb p.variable v (sym d))))
-      (λ d. has_old picks at p k v (F.all k v x (inr (y.0, omega (arith, y.1, d)))))
-      (cases_eq v p.variable)) s;
+        (λ d. has_new picks at p k v (ap₂ (λ a b. a && b) (eq-eqb p.row k (omega (arith, r, y.0))) (eq-eqb p.variable v (sym d))))
+        (λ d. has_old picks at p k v (F.all k v x (inr (y.0, omega (arith, y.1, d)))))
+        (cases_eq v p.variable)) s;
     few = (let a = length-insert picks at p h in let b = F.few in omega (arith, a, b));
   }
 

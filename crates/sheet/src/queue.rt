@@ -71,7 +71,13 @@ impl Queue {
 
     // One row more, at so many variables: its pairs find their places, and every pair has to be looked at anew. The loop counts
     // from 0: `1..=variables` is left from within its last round, and what a round does would have to be shown twice.
-    pub(crate) fn push_row<O: Order>(&mut self, order: &O, variables: usize, row: usize, lead: &Monomial)
+    pub(crate) fn push_row<O: Order>(
+        &mut self,
+        order: &O,
+        variables: usize,
+        row: usize,
+        lead: &Monomial,
+    )
         requires { variables ≤ width }
         ensures next { self.new.next ≡ 0 }
         ensures queued { (leads : List (List ℕ)) → Queued (O.Order.meaning order.now) variables leads self.old.picks.items → length leads + 1 ≡ row → row ≤ most_rows → Wide lead.now.exponents → Queued (O.Order.meaning order.now) variables (leads ++ lead.now.exponents ∷ []) self.new.picks.items }

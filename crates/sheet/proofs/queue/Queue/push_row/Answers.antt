@@ -1,6 +1,5 @@
 use Rattle.std.proofs.Common.{◌≡◌, ◌+◌, ◌-◌, ◌∷◌, [], ◌++◌, length, vec_items, sym, ap, ◌∙◌, subst, arith, length-append}
 use Rattle.std.proofs.lemmas.List.{get_or_push}
-use Rattle.monomial.specs.Division.{member}
 use Rattle.sheet.specs.Queueing.{capped_raise, Filled}
 use Rattle.sheet.proofs.Queues.{filled_begin, filled_end}
 use Rattle.sheet.proofs.queue.Queue.push_row.Goals as goal
