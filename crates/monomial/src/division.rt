@@ -54,5 +54,6 @@ pub(crate) fn is_largest(list: &[Monomial], u: &Monomial, variable: usize, befor
     ensures { result ≡ largest (agrees before u.now.exponents) (exponents_of list.now) variable u.now.exponents }
 {
     let place = variable - 1;
-    list.iter().all(|w| !agree(w, u, before) || w.exponents[place] <= u.exponents[place])
+    // The exponent first: comparing that alone mostly tells.
+    list.iter().all(|w| w.exponents[place] <= u.exponents[place] || !agree(w, u, before))
 }

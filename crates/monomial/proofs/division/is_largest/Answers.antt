@@ -10,5 +10,5 @@ use Rattle.monomial.proofs.division.is_largest.Goals as goal
 pub returns : goal.returns
 returns c =
     let u = c.args.u.now.exponents in
-    all_from_yields_List (λ w. not (agrees c.args.before u w.exponents) || leb (exponent w.exponents c.args.variable) (exponent u c.args.variable)) _ _ c.all.result c.all.ensures.ran (YieldsList-from_slice c.args.list.now cc) (λ x b q k. search (rules, tests))
+    all_from_yields_List (λ w. leb (exponent w.exponents c.args.variable) (exponent u c.args.variable) || not (agrees c.args.before u w.exponents)) _ _ c.all.result c.all.ensures.ran (YieldsList-from_slice c.args.list.now cc) (λ x b q k. search (rules, tests))
     ∙ all_largest (agrees c.args.before u) c.args.variable u c.args.list.now
