@@ -10,7 +10,8 @@ use polynomial::ring::Ring;
 use reduction::table::Row;
 
 // What the rows keep beside their terms agrees with these terms, the ring and the division. The division is here for
-// that alone: only a new row has it asked.
+// that alone: only a new row has it asked. Each caller puts them together, since a method of a sheet would lend its buffers
+// too.
 #[derive(Drop)]
 pub(crate) struct Rows<'a, F: Field, O: Order, D: Division> {
     pub(crate) ring: &'a Ring<F, O>,
