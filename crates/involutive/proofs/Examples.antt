@@ -1,33 +1,38 @@
--- Sheets that exist: the evaluator makes them, and the main theorem tells their ideals apart.
-use Rattle.std.proofs.Common.{◌≡◌, ℕ, zero, suc, false, eqb, List, [], ◌∷◌, length, drop, Some, None, Option, sym, ap, ◌∙◌, subst, arith}
+-- What exists: the evaluator makes it, and the main theorem tells the sheets' ideals apart.
+use Rattle.std.proofs.Common.{◌≡◌, ℕ, zero, suc, false, eqb, List, [], ◌∷◌, length, drop, Some, None, Option, refl, sym, ap, ◌∙◌, subst, arith}
 use lib.Seq.{take-append_seam}
 use Rattle.std.proofs.lemmas.Bool.{both_ways, eqb-false}
 use Rattle.monomial.specs.Monomial.{one, same}
-use Rattle.monomial.specs.Division.{Split, DivisionLaws, Within, thomas}
-use Rattle.monomial.specs.Divisions.{thomas_laws}
+use Rattle.monomial.specs.Division.{Split, DivisionLaws, Within, janet, thomas}
+use Rattle.monomial.specs.Divisions.{janet_laws, thomas_laws}
 use Rattle.polynomial.specs.Polynomial.{Poly, term, leading}
 use Rattle.polynomial.specs.Check.{most_terms}
 use Rattle.polynomial.specs.Bytes.{copy_bytes}
-use Rattle.involutive.specs.Value.{unit}
-use Rattle.involutive.specs.Ideal.{Member}
+use Rattle.polynomial.proofs.Checking.{acceptable_from}
+use Rattle.involutive.specs.Value.{plus, unit}
+use Rattle.involutive.specs.Ideal.{combination, Member}
 use Rattle.involutive.specs.Sheet.{Setting, Lawful, State, Closed}
 use Rattle.involutive.specs.Answers.{first_fault, front, ReducesTo, remainder_written, copy_written}
 use Rattle.involutive.specs.Reduction.{row, left}
 use Rattle.involutive.specs.Log.{Call, add, step}
 use Rattle.involutive.specs.Complete.{Granted, GrantedCopy, under_division}
-use Rattle.involutive.specs.Facts.{three, power, x1²+2, x1x2+2, x1+2x2}
+use Rattle.involutive.specs.Facts.{three, power, x1, x2, x1x2², x1²+2, x1x2+2, x1+2x2, x2²+2}
 use Rattle.involutive.specs.Examples.{Made, Proper, OneCopy, TwoCopies, NotEmpty}
 use Rattle.involutive.proofs.Soundness
 use Rattle.involutive.proofs.Monomials
 use Rattle.involutive.proofs.Verdicts
 use Rattle.involutive.proofs.Completeness.{complete}
-use Rattle.involutive.proofs.Decided.{◌>>=◌, given, fails, lt?, same?, missing}
+use Rattle.involutive.proofs.Decided.{◌>>=◌, given, fails, lt?, same?, missing, each?, equal?, same_poly?}
 use Rattle.involutive.proofs.Evaluate.{fuel, reduce, Copy, fair_copy?, closed?, run}
 use Rattle.involutive.proofs.WorkedFacts.{no_unit?, three_lawful}
 
 -- lists of numbers that the test tells apart
 apart : (u m : List ℕ) → same u m ≡ false → u ≡ m → ⊥
 apart u m f e = both_ways _ f (ap (λ m. same u m) (sym e) ∙ Monomials.same_refl u)
+
+-- polynomials that their leading monomials tell apart
+abbrev led_apart? : (f g : Poly) → Option (f ≡ g → ⊥)
+led_apart? f g = fails (same (leading f) (leading g)) >>= λ d. Some (λ e. apart (leading f) (leading g) d (ap leading e))
 
 module _ (S : Setting) (W : Lawful S) where
   abbrev made? : List Call → Option (Made S)
@@ -54,11 +59,25 @@ module _ (S : Setting) (W : Lawful S) where
       let u = (Verdicts.verdict S W x.state x.sound x.closed).0 (((complete S W).ideal x.calls x.state x.generators x.after unit (Verdicts.unit_written S W).over).1 m) in
       h u.k u.within u.leads
 
-  abbrev proper? : (calls : List Call) (f g : Poly) → Option (Proper S)
-  proper? calls f g =
-      made? calls >>= λ x. lt? 0 (length x.state.rows) >>= λ n. no_unit? x.state >>= λ h. remainder? x f >>= λ r. remainder? x g >>= λ t.
-      fails (same (leading r.0) (leading t.0)) >>= λ d.
-      Some (record { sheet = x; nonempty = n; proper = proper x h; f = f; g = g; r = r.0; t = t.0; first = r.1; second = t.1; differ = λ e. apart (leading r.0) (leading t.0) d (ap leading e) })
+  abbrev proper? : (calls : List Call) (f g h : Poly) → Option (Proper S)
+  proper? calls f g h =
+      made? calls >>= λ x. lt? 0 (length x.state.rows) >>= λ n. no_unit? x.state >>= λ no. remainder? x f >>= λ r. remainder? x g >>= λ t. remainder? x h >>= λ u.
+      led_apart? r.0 t.0 >>= λ d. same_poly? u.0 r.0 >>= λ e. led_apart? h f >>= λ o.
+      Some (record {
+        sheet = x;
+        nonempty = n;
+        proper = proper x no;
+        f = f;
+        g = g;
+        r = r.0;
+        t = t.0;
+        first = r.1;
+        second = t.1;
+        differ = d;
+        h = h;
+        third = subst (Granted S x.state h) e u.1;
+        other = o;
+      })
 
 -- two sheets, side by side
 module _ (S : Setting) (W : Lawful S) (D : Split) (E : DivisionLaws D) where
@@ -68,6 +87,7 @@ module _ (S : Setting) (W : Lawful S) (D : Split) (E : DivisionLaws D) where
   one_copy : (x : Made S) (y : Made (under_division S D)) (c : Copy S x.state) (d : Copy (under_division S D) y.state) →
       eqb (length x.state.rows) (length y.state.rows) ≡ false → copy_bytes c.polys ≡ copy_bytes d.polys → OneCopy S D
   one_copy x y c d n e = record {
+    laws = E;
     here = x;
     there = y;
     tables = λ t. eqb-false _ _ n (ap length t);
@@ -103,15 +123,24 @@ module _ (S : Setting) (W : Lawful S) where
       made? S W calls >>= λ x. made? S W calls' >>= λ y. fair_copy? S x.state >>= λ c. fair_copy? S y.state >>= λ d.
       fails (same (copy_bytes c.polys) (copy_bytes d.polys)) >>= λ n. Some (two_copies x y c d n)
 
--- two generators and so many steps
-abbrev steps : ℕ → List Call
-steps zero = add x1x2+2 ∷ add x1²+2 ∷ []
-steps (suc n) = step ∷ steps n
+-- multipliers, one to a generator, and the value of their combination
+abbrev member? : (S : Setting) (ms gs : List Poly) (f : Poly) → length ms ≡ length gs → Option (Member S.field S.variables gs f)
+member? S ms gs f e =
+    each? (λ a. missing (first_fault S a)) ms >>= λ n. equal? S.field f (combination S.field ms gs) >>= λ s.
+    Some (record { multipliers = ms; each = e; over = λ a m. (acceptable_from S.field S.order S.variables a (n a m)).written.over; sum = s })
+
+-- two generators, one of them first, and so many steps
+abbrev steps : Poly → Poly → ℕ → List Call
+steps f g zero = add g ∷ add f ∷ []
+steps f g (suc n) = step ∷ steps f g n
 
 pub not_empty : NotEmpty
 not_empty = record {
   lawful = three_lawful;
-  proper = given (proper? three three_lawful (steps 6) unit (term 1 (power 0 1 0) ∷ [])) tt;
-  one_copy = given (one_copy? three three_lawful thomas thomas_laws (steps 6) (steps 21)) tt;
-  two_copies = given (two_copies? three three_lawful (steps 6) (add x1+2x2 ∷ [])) tt;
+  sum = given (equal? three.field x1+2x2 (plus x1 (plus x2 x2))) tt;
+  member = given (member? three (x2 ∷ (term 2 (power 1 0 0) ∷ []) ∷ []) (x1²+2 ∷ x1x2+2 ∷ []) x1+2x2 refl) tt;
+  proper = given (proper? three three_lawful (steps x1²+2 x1x2+2 6) x1x2² unit x1) tt;
+  two_divisions = given (one_copy? three three_lawful thomas thomas_laws (steps x1²+2 x1x2+2 6) (steps x1²+2 x1x2+2 21)) tt;
+  one_division = given (one_copy? three three_lawful janet janet_laws (steps x1²+2 x1x2+2 6) (steps x1+2x2 x2²+2 1)) tt;
+  two_copies = given (two_copies? three three_lawful (steps x1²+2 x1x2+2 6) (add x1+2x2 ∷ [])) tt;
 }

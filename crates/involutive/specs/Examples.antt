@@ -1,14 +1,14 @@
--- The theorems speak of sheets that exist: closed sheets over the integers modulo 3 in two variables, made by calls.
-use Rattle.std.specs.Prelude.{◌≡◌, ℕ, ◌<◌, List, length}
-use Rattle.monomial.specs.Division.{Split, thomas}
+-- The theorems speak of what exists: sums, members of ideals, and closed sheets made by calls, all over the integers modulo 3.
+use Rattle.std.specs.Prelude.{◌≡◌, ℕ, ◌<◌, List, [], ◌∷◌, length}
+use Rattle.monomial.specs.Division.{Split, DivisionLaws, janet, thomas}
 use Rattle.polynomial.specs.Polynomial.{Poly}
-use Rattle.involutive.specs.Value.{unit}
+use Rattle.involutive.specs.Value.{Equal, plus, unit}
 use Rattle.involutive.specs.Ideal.{Member, SameIdeal}
 use Rattle.involutive.specs.Sheet.{Setting, Lawful, State, Closed}
 use Rattle.involutive.specs.Log.{Call, After}
 use Rattle.involutive.specs.Sound.{Sound}
 use Rattle.involutive.specs.Complete.{Granted, GrantedCopy, under_division}
-use Rattle.involutive.specs.Facts.{three}
+use Rattle.involutive.specs.Facts.{three, x1, x2, x1²+2, x1x2+2, x1+2x2}
 
 -- a closed sheet that calls have made
 pub record Made (S : Setting) : Type 0 where
@@ -19,7 +19,7 @@ pub record Made (S : Setting) : Type 0 where
   pub sound : Sound S state
   pub closed : Closed S state
 
--- one with rows, an ideal without 1, and two remainders that differ
+-- one with rows, an ideal without 1, two remainders that differ, and two polynomials with one remainder
 pub record Proper (S : Setting) : Type 0 where
   pub sheet : Made S
   pub nonempty : 0 < length sheet.state.rows
@@ -31,9 +31,13 @@ pub record Proper (S : Setting) : Type 0 where
   pub first : Granted S sheet.state f r
   pub second : Granted S sheet.state g t
   pub differ : r ≡ t → ⊥
+  pub h : Poly
+  pub third : Granted S sheet.state h r
+  pub other : h ≡ f → ⊥
 
--- two tables under two divisions, and one fair copy
+-- two tables, the second under a division D that keeps its laws, and one fair copy
 pub record OneCopy (S : Setting) (D : Split) : Type 0 where
+  pub laws : DivisionLaws D
   pub here : Made S
   pub there : Made (under_division S D)
   pub tables : here.state.rows ≡ there.state.rows → ⊥
@@ -54,6 +58,10 @@ pub record TwoCopies (S : Setting) : Type 0 where
 
 pub record NotEmpty : Type 0 where
   pub lawful : Lawful three
+  pub sum : Equal three.field x1+2x2 (plus x1 (plus x2 x2))
+  -- a member that is none of the generators
+  pub member : Member three.field three.variables (x1²+2 ∷ x1x2+2 ∷ []) x1+2x2
   pub proper : Proper three
-  pub one_copy : OneCopy three thomas
+  pub two_divisions : OneCopy three thomas
+  pub one_division : OneCopy three janet
   pub two_copies : TwoCopies three
