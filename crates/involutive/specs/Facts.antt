@@ -1,5 +1,5 @@
 -- Worked facts: what the definitions come to in small cases.
-use Rattle.std.specs.Prelude.{◌≡◌, ℕ, ◌-◌, ◌≤◌, Bool, false, ◌||◌, List, [], ◌∷◌, length, replicate, Some, ◌==◌, slice_index_or}
+use Rattle.std.specs.Prelude.{◌≡◌, ℕ, zero, suc, ◌-◌, ◌≤◌, Bool, false, ◌||◌, List, [], ◌∷◌, length, replicate, Some, ◌==◌, slice_index_or}
 use mathlib.Core.List.{Memᴰ}
 use Rattle.field.specs.Field.{FieldMeaning}
 use Rattle.field.specs.Primes.{prime_meaning}
@@ -81,11 +81,19 @@ x1+2x2 = term 1 (power 1 0 0) ∷ term 2 (power 0 1 0) ∷ []
 abbrev pub x2²+2 : Poly
 x2²+2 = term 1 (power 0 2 0) ∷ term 2 (power 0 0 0) ∷ []
 
+abbrev pub two_adds : List Call
+two_adds = add x1x2+2 ∷ add x1²+2 ∷ []
+
+-- so many steps after the calls
+abbrev pub steps : ℕ → List Call → List Call
+steps zero calls = calls
+steps (suc n) calls = step ∷ steps n calls
+
 -- calls of every kind; the verdict is denied before the steps close the sheet, and the last add since 3 is no code modulo 3
 abbrev pub every_call : List Call
 every_call =
     Log.fair_copy (replicate 38 0) ∷ Log.show_row 4 x1²+2 ∷ Log.remainder x1x2² unit ∷ add (term 3 (power 1 0 0) ∷ [])
-    ∷ step ∷ step ∷ step ∷ step ∷ step ∷ step ∷ Log.verdict ∷ add x1x2+2 ∷ add x1²+2 ∷ []
+    ∷ steps 6 (Log.verdict ∷ two_adds)
 
 abbrev pub facts : List Fact
 facts =
@@ -98,7 +106,7 @@ facts =
     ∷ multiplicative janet 2 (power 1 0 0 ∷ power 0 1 0 ∷ []) ((1 ∷ 2 ∷ []) ∷ (2 ∷ []) ∷ [])
     ∷ ends three [] [] [] [] 0
     ∷ ends three (add unit ∷ []) (unit ∷ []) (unit ∷ []) (unit ∷ []) 1
-    ∷ still_open three (step ∷ step ∷ step ∷ step ∷ step ∷ add x1x2+2 ∷ add x1²+2 ∷ []) (x1²+2 ∷ x1x2+2 ∷ [])
+    ∷ still_open three (steps 5 two_adds) (x1²+2 ∷ x1x2+2 ∷ [])
     ∷ ends three every_call (x1²+2 ∷ x1x2+2 ∷ []) (x1²+2 ∷ x1x2+2 ∷ x1+2x2 ∷ x2²+2 ∷ []) (x2²+2 ∷ x1+2x2 ∷ []) 0
     ∷ []
 
