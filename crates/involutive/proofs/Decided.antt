@@ -79,6 +79,10 @@ abbrev pub missing : {A : Type 0} (o : Option A) → Option (o ≡ None)
 missing None = Some refl
 missing (Some a) = None
 
+abbrev pub present : {A : Type 0} (o : Option A) → Option ((a : A) × (o ≡ Some a))
+present None = None
+present (Some a) = Some (a, refl)
+
 abbrev pub says? : (b : Bool) (o : Option Bool) → Option (o ≡ Some b)
 says? true (Some true) = Some refl
 says? true (Some false) = None
@@ -179,8 +183,11 @@ same_list? f [] (y ∷ r) = None
 same_list? f (x ∷ l) [] = None
 same_list? f (x ∷ l) (y ∷ r) = f x y >>= λ p. same_list? f l r >>= λ q. Some (same_cons x y l r p q)
 
+abbrev pub same_poly? : (f g : Poly) → Option (f ≡ g)
+same_poly? = same_list? (λ t s. eq? t.coefficient s.coefficient >>= λ c. same? (exponents t) (exponents s) >>= λ m. Some (same_term t s c m))
+
 abbrev pub same_polys? : (fs gs : List Poly) → Option (fs ≡ gs)
-same_polys? = same_list? (same_list? (λ t s. eq? t.coefficient s.coefficient >>= λ c. same? (exponents t) (exponents s) >>= λ m. Some (same_term t s c m)))
+same_polys? = same_list? same_poly?
 
 pub small : (m : List ℕ) → ((e : ℕ) → Memᴰ e m → e ≤ 40) → (i : ℕ) → get_or m i 0 ≤ 40
 small [] h i = omega arith

@@ -11,6 +11,7 @@ use Rattle.polynomial.specs.Polynomial.{Poly, term, exponents, leading}
 use Rattle.involutive.specs.Value.{minus}
 use Rattle.involutive.specs.Reduction.{Table, row, leaders, left, Irreducible, multiple, Difference, Reduces, done, acts}
 use Rattle.polynomial.specs.Check.{Fits, most_terms}
+use Rattle.polynomial.specs.Bytes.{copy_bytes}
 use Rattle.involutive.specs.Answers
 use Rattle.involutive.specs.Sheet.{Setting, State, empty, Chosen, Closed, prolonged, height, with_mark, with_row, most_rows}
 use Rattle.involutive.specs.Answers.{Answer, first_fault, Adds, Steps, Minimal, Rising, Selection, Copies, copies, ReducesTo}
@@ -18,7 +19,7 @@ use Rattle.std.specs.Ordering.{is_lt}
 use Rattle.involutive.specs.Log
 use Rattle.involutive.specs.Log.{Call, After}
 use Rattle.polynomial.proofs.Checking.{acceptable_from}
-use Rattle.involutive.proofs.Decided.{◌>>=◌, ◌or◌, is_some, passes, fails, le?, lt?, eq?, same?, within?, under?, not_under, missing, says?, denies?, all?, some?, each?, divides?, not_divides?, divisor?, no_divisor?, equal?, fits?}
+use Rattle.involutive.proofs.Decided.{◌>>=◌, ◌or◌, is_some, passes, fails, le?, lt?, eq?, same?, within?, under?, not_under, missing, present, says?, denies?, all?, some?, each?, divides?, not_divides?, divisor?, no_divisor?, equal?, fits?}
 
 -- what a sum of terms comes to, in falling order
 module _ (F : FieldMeaning) (O : Compare) where
@@ -195,7 +196,11 @@ module _ (S : Setting) (s : State) where
   abbrev pub fair_copy? : Option Copy
   fair_copy? = let ks : List ℕ = select (length s.rows) in closed? >>= λ c. selection? ks >>= λ z. copy? ks >>= λ f. Some (record { closed = c; rows = ks; selection = z; polys = f.0; copied = f.1 })
 
--- logs of granted adds and of steps
+-- a pair that a step takes is not marked
+pub not_closed : {S : Setting} {s : State} {k v : ℕ} → Chosen S s k v → Closed S s → ⊥
+not_closed c h = both_ways _ c.unmarked (h _ _ c.pair)
+
+-- logs of steps, of granted adds, remainders, rows and copies, of adds of faulty polynomials and of verdicts too early
 module _ (S : Setting) where
   pub record Ran (calls : List Call) : Type 0 where
     pub state : State
@@ -204,9 +209,16 @@ module _ (S : Setting) where
 
   abbrev pub run : (calls : List Call) → Option (Ran calls)
   run [] = Some (record { state = empty; accepted = []; after = Log.made })
-  run (Log.add f ∷ calls) = run calls >>= λ x. add? S x.state f >>= λ y. Some (record { state = y.state; accepted = x.accepted ++ (f ∷ []); after = Log.added x.after y.adds })
+  run (Log.add f ∷ calls) = run calls >>= λ x.
+      (add? S x.state f >>= λ y. Some (record { state = y.state; accepted = x.accepted ++ (f ∷ []); after = Log.added x.after y.adds }))
+      or λ u. present (first_fault S f) >>= λ q. Some (record { state = x.state; accepted = x.accepted; after = Log.not_added x.after (Answers.add_faulty q.1) })
   run (Log.step ∷ calls) = run calls >>= λ x. step? S x.state >>= λ y. Some (record { state = y.state; accepted = x.accepted; after = Log.stepped x.after y.steps })
-  run (Log.remainder f out ∷ calls) = None
-  run (Log.show_row k out ∷ calls) = None
-  run (Log.fair_copy out ∷ calls) = None
-  run (Log.verdict ∷ calls) = None
+  run (Log.remainder f out ∷ calls) = run calls >>= λ x. closed? S x.state >>= λ c. missing (first_fault S f) >>= λ n.
+      reduce S x.state.rows most_terms fuel f >>= λ r. le? (length r.0) (length out) >>= λ l.
+      Some (record { state = x.state; accepted = x.accepted; after = Log.reduced x.after (Answers.remainder_written c n r.1 l) })
+  run (Log.show_row k out ∷ calls) = run calls >>= λ x. within? k (length x.state.rows) >>= λ w. le? (length (row x.state.rows k)) (length out) >>= λ l.
+      Some (record { state = x.state; accepted = x.accepted; after = Log.shown x.after (Answers.row_written w l) })
+  run (Log.fair_copy out ∷ calls) = run calls >>= λ x. fair_copy? S x.state >>= λ c. le? (length (copy_bytes c.polys)) (length out) >>= λ l.
+      Some (record { state = x.state; accepted = x.accepted; after = Log.copied x.after (Answers.copy_written c.closed c.selection c.copied l) })
+  run (Log.verdict ∷ calls) = run calls >>= λ x. choose S x.state >>= λ c.
+      Some (record { state = x.state; accepted = x.accepted; after = Log.judged x.after (Answers.verdict_open (not_closed c.2)) })

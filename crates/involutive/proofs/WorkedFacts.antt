@@ -7,7 +7,7 @@ use Rattle.monomial.specs.Monomial.{one, same}
 use Rattle.monomial.specs.Division.{Within}
 use Rattle.polynomial.specs.Polynomial.{Poly, leading}
 use Rattle.involutive.specs.Reduction.{row}
-use Rattle.involutive.specs.Sheet.{Setting, State, Chosen, Closed, Lawful}
+use Rattle.involutive.specs.Sheet.{Setting, State, Closed, Lawful}
 use Rattle.involutive.specs.Answers.{Copies, copies, Judges, verdict_answer, copy_written}
 use Rattle.involutive.specs.Log.{Call, After}
 use Rattle.involutive.specs.Facts.{Fact, inverse, below, multiplicative, ends, still_open, Ends, Open, Holds, listed, facts, FactsHold, three}
@@ -19,7 +19,7 @@ use Rattle.monomial.specs.Orders.{lexicographic_laws}
 use Rattle.field.specs.Primes
 use Rattle.field.specs.PrimeLaws.{prime_laws}
 use Rattle.involutive.proofs.Decided.{◌>>=◌, is_some, given, fails, eq?, same?, under?, within?, says?, all?, some?, same_polys?}
-use Rattle.involutive.proofs.Evaluate.{Copy, fair_copy?, Ran, run, choose}
+use Rattle.involutive.proofs.Evaluate.{Copy, fair_copy?, Ran, run, choose, not_closed}
 
 -- no row has the leading monomial 1
 module _ (s : State) where
@@ -51,15 +51,11 @@ module _ (S : Setting) (W : Lawful S) (calls : List Call) (gs T fs : List Poly) 
       run S calls >>= λ x. same_polys? x.accepted gs >>= λ p. same_polys? x.state.rows T >>= λ q. fair_copy? S x.state >>= λ y. same_polys? y.polys fs >>= λ r.
       verdict? S W x.state (Soundness.sound S W x.after) y.closed v >>= λ j. Some (end x p q y r j)
 
--- a pair that a step takes is not marked
-pub not_closed : (S : Setting) (s : State) (k v : ℕ) → Chosen S s k v → Closed S s → ⊥
-not_closed S s k v c h = both_ways _ c.unmarked (h k v c.pair)
-
 module _ (S : Setting) (calls : List Call) (gs : List Poly) where
   abbrev open? : Option (Open S calls gs)
   open? =
       run S calls >>= λ x. same_polys? x.accepted gs >>= λ p. choose S x.state >>= λ c.
-      Some (record { state = x.state; after = subst (After S calls x.state) p x.after; not_closed = not_closed S x.state c.0 c.1 c.2 })
+      Some (record { state = x.state; after = subst (After S calls x.state) p x.after; not_closed = not_closed c.2 })
 
 -- what no computation shows, that a setting keeps its laws: the verdict rests on it
 abbrev Laws : Fact → Type 0

@@ -1,27 +1,26 @@
--- The theorems speak of sheets that exist: closed sheets over the integers modulo 3 in two variables, made by calls.
-use Rattle.std.specs.Prelude.{◌≡◌, ℕ, ◌<◌, List, length}
-use Rattle.monomial.specs.Division.{Split, thomas}
+-- The theorems speak of what exists: sums, members of ideals, and closed sheets made by calls, all over the integers modulo 3.
+use Rattle.std.specs.Prelude.{◌≡◌, ℕ, ◌<◌, List, [], ◌∷◌, length}
+use Rattle.monomial.specs.Division.{DivisionLaws, thomas}
 use Rattle.polynomial.specs.Polynomial.{Poly}
-use Rattle.involutive.specs.Value.{unit}
+use Rattle.involutive.specs.Value.{Equal, plus, unit}
 use Rattle.involutive.specs.Ideal.{Member, SameIdeal}
 use Rattle.involutive.specs.Sheet.{Setting, Lawful, State, Closed}
-use Rattle.involutive.specs.Log.{Call, After}
+use Rattle.involutive.specs.Log.{Call, After, add}
 use Rattle.involutive.specs.Sound.{Sound}
 use Rattle.involutive.specs.Complete.{Granted, GrantedCopy, under_division}
-use Rattle.involutive.specs.Facts.{three}
+use Rattle.involutive.specs.Facts.{three, x1, x2, x1²+2, x1x2+2, x1+2x2, x2²+2, two_adds, steps}
 
--- a closed sheet that calls have made
-pub record Made (S : Setting) : Type 0 where
-  pub calls : List Call
+-- a closed sheet that the calls have made
+pub record Made (S : Setting) (calls : List Call) : Type 0 where
   pub state : State
   pub generators : List Poly
   pub after : After S calls state generators
   pub sound : Sound S state
   pub closed : Closed S state
 
--- one with rows, an ideal without 1, and two remainders that differ
-pub record Proper (S : Setting) : Type 0 where
-  pub sheet : Made S
+-- one with rows, an ideal without 1, two remainders that differ, and two polynomials with one remainder
+pub record Proper (S : Setting) (calls : List Call) : Type 0 where
+  pub sheet : Made S calls
   pub nonempty : 0 < length sheet.state.rows
   pub proper : Member S.field S.variables sheet.generators unit → ⊥
   pub f : Poly
@@ -31,20 +30,23 @@ pub record Proper (S : Setting) : Type 0 where
   pub first : Granted S sheet.state f r
   pub second : Granted S sheet.state g t
   pub differ : r ≡ t → ⊥
+  pub h : Poly
+  pub third : Granted S sheet.state h r
+  pub other : h ≡ f → ⊥
 
--- two tables under two divisions, and one fair copy
-pub record OneCopy (S : Setting) (D : Split) : Type 0 where
-  pub here : Made S
-  pub there : Made (under_division S D)
+-- two tables, and one fair copy
+pub record OneCopy (S T : Setting) (calls calls' : List Call) : Type 0 where
+  pub here : Made S calls
+  pub there : Made T calls'
   pub tables : here.state.rows ≡ there.state.rows → ⊥
   pub copy : List ℕ
   pub copy_here : GrantedCopy S here.state copy
-  pub copy_there : GrantedCopy (under_division S D) there.state copy
+  pub copy_there : GrantedCopy T there.state copy
 
 -- two ideals, and two fair copies
-pub record TwoCopies (S : Setting) : Type 0 where
-  pub here : Made S
-  pub there : Made S
+pub record TwoCopies (S : Setting) (calls calls' : List Call) : Type 0 where
+  pub here : Made S calls
+  pub there : Made S calls'
   pub ideals : SameIdeal S.field S.variables here.generators there.generators → ⊥
   pub copy : List ℕ
   pub other : List ℕ
@@ -54,6 +56,13 @@ pub record TwoCopies (S : Setting) : Type 0 where
 
 pub record NotEmpty : Type 0 where
   pub lawful : Lawful three
-  pub proper : Proper three
-  pub one_copy : OneCopy three thomas
-  pub two_copies : TwoCopies three
+  pub sum : Equal three.field x1+2x2 (plus x1 (plus x2 x2))
+  -- a member that is none of the generators
+  pub member : Member three.field three.variables (x1²+2 ∷ x1x2+2 ∷ []) x1+2x2
+  pub proper : Proper three (steps 6 two_adds)
+  -- one log under two divisions
+  pub two_divisions : OneCopy three (under_division three thomas) (steps 21 two_adds) (steps 21 two_adds)
+  pub laws : DivisionLaws thomas
+  -- two lists of generators under one division
+  pub one_division : OneCopy three three (steps 6 two_adds) (steps 1 (add x2²+2 ∷ add x1+2x2 ∷ []))
+  pub two_copies : TwoCopies three (steps 6 two_adds) (add x1+2x2 ∷ [])

@@ -1,5 +1,5 @@
 -- Worked facts: what the definitions come to in small cases.
-use Rattle.std.specs.Prelude.{◌≡◌, ℕ, ◌-◌, ◌≤◌, Bool, false, ◌||◌, List, [], ◌∷◌, length, Some, ◌==◌, slice_index_or}
+use Rattle.std.specs.Prelude.{◌≡◌, ℕ, zero, suc, ◌-◌, ◌≤◌, Bool, false, ◌||◌, List, [], ◌∷◌, length, replicate, Some, ◌==◌, slice_index_or}
 use mathlib.Core.List.{Memᴰ}
 use Rattle.field.specs.Field.{FieldMeaning}
 use Rattle.field.specs.Primes.{prime_meaning}
@@ -11,6 +11,7 @@ use Rattle.polynomial.specs.Bytes.{copy_bytes}
 use Rattle.involutive.specs.Value.{unit}
 use Rattle.involutive.specs.Sheet.{Setting, State, Closed}
 use Rattle.involutive.specs.Answers.{FairCopies, Judges, copied_answer, verdict_answer, front}
+use Rattle.involutive.specs.Log
 use Rattle.involutive.specs.Log.{Call, After, add, step}
 
 abbrev pub listed : ℕ → List ℕ → Bool
@@ -59,6 +60,15 @@ power a b c = a ∷ b ∷ c ∷ 0 ∷ 0 ∷ 0 ∷ []
 abbrev pub three : Setting
 three = record { field = prime_meaning 3; order = lexicographic; division = janet; variables = 2 }
 
+abbrev pub x1 : Poly
+x1 = term 1 (power 1 0 0) ∷ []
+
+abbrev pub x2 : Poly
+x2 = term 1 (power 0 1 0) ∷ []
+
+abbrev pub x1x2² : Poly
+x1x2² = term 1 (power 1 2 0) ∷ []
+
 abbrev pub x1²+2 : Poly
 x1²+2 = term 1 (power 2 0 0) ∷ term 2 (power 0 0 0) ∷ []
 
@@ -71,6 +81,20 @@ x1+2x2 = term 1 (power 1 0 0) ∷ term 2 (power 0 1 0) ∷ []
 abbrev pub x2²+2 : Poly
 x2²+2 = term 1 (power 0 2 0) ∷ term 2 (power 0 0 0) ∷ []
 
+abbrev pub two_adds : List Call
+two_adds = add x1x2+2 ∷ add x1²+2 ∷ []
+
+-- so many steps after the calls
+abbrev pub steps : ℕ → List Call → List Call
+steps zero calls = calls
+steps (suc n) calls = step ∷ steps n calls
+
+-- calls of every kind; the verdict is denied before the steps close the sheet, and the last add since 3 is no code modulo 3
+abbrev pub every_call : List Call
+every_call =
+    Log.fair_copy (replicate 38 0) ∷ Log.show_row 4 x1²+2 ∷ Log.remainder x1x2² unit ∷ add (term 3 (power 1 0 0) ∷ [])
+    ∷ steps 6 (Log.verdict ∷ two_adds)
+
 abbrev pub facts : List Fact
 facts =
     inverse four_meaning 2 3
@@ -82,8 +106,8 @@ facts =
     ∷ multiplicative janet 2 (power 1 0 0 ∷ power 0 1 0 ∷ []) ((1 ∷ 2 ∷ []) ∷ (2 ∷ []) ∷ [])
     ∷ ends three [] [] [] [] 0
     ∷ ends three (add unit ∷ []) (unit ∷ []) (unit ∷ []) (unit ∷ []) 1
-    ∷ still_open three (step ∷ step ∷ step ∷ step ∷ step ∷ add x1x2+2 ∷ add x1²+2 ∷ []) (x1²+2 ∷ x1x2+2 ∷ [])
-    ∷ ends three (step ∷ step ∷ step ∷ step ∷ step ∷ step ∷ add x1x2+2 ∷ add x1²+2 ∷ []) (x1²+2 ∷ x1x2+2 ∷ []) (x1²+2 ∷ x1x2+2 ∷ x1+2x2 ∷ x2²+2 ∷ []) (x2²+2 ∷ x1+2x2 ∷ []) 0
+    ∷ still_open three (steps 5 two_adds) (x1²+2 ∷ x1x2+2 ∷ [])
+    ∷ ends three every_call (x1²+2 ∷ x1x2+2 ∷ []) (x1²+2 ∷ x1x2+2 ∷ x1+2x2 ∷ x2²+2 ∷ []) (x2²+2 ∷ x1+2x2 ∷ []) 0
     ∷ []
 
 abbrev pub FactsHold : Type 0

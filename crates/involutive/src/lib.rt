@@ -67,8 +67,8 @@ pub fn facts_hold() -> u8
     0
 }
 
-// The theorems speak of something: there are closed sheets with proper ideals, remainders that differ, one fair copy
-// under two divisions, and two fair copies of two ideals.
+// The theorems speak of something: there are closed sheets with proper ideals, with remainders that differ and remainders
+// that agree; fair copies that agree, under two divisions and under one; and two fair copies of two ideals.
 pub fn not_empty() -> u8
     ensures { NotEmpty }
 {
