@@ -341,9 +341,9 @@ PLANTS = [
      'the leading term is left out of the count'),
     ('sheet',
      'src/copy.rt',
-     '        bytes.written.push_reserved(END_OF_ROW);\n',
-     '',
-     'a closing byte is missing'),
+     'const END_OF_ROW: u8 = 0x02;',
+     'const END_OF_ROW: u8 = 0x00;',
+     'another constant: the closing byte of a row'),
     ('sheet',
      'src/unit.rt',
      '.is_same(&Monomial::ONE)',
@@ -437,6 +437,39 @@ PLANTS = [
 ]
 
 
+# crate, old text and new text of src/main.rt, what the slip is: no contract says what a program prints, so a test must tell
+PROGRAMS = [
+    ('interlock',
+     '.take(MOST_INPUT as u64)',
+     '.take(59_999)',
+     'one byte too few is read'),
+    ('interlock',
+     '    rt.stdout().write_all(text.as_slice())?;\n',
+     '',
+     'a dropped write'),
+    ('interlock',
+     '    rt.stdout().write_all(text.as_slice())?;\n',
+     '    rt.stdout().write_all(text.as_slice())?;\n    rt.stdout().write_all(text.as_slice())?;\n',
+     'a text is written twice'),
+    ('interlock',
+     '    rt.stdout().write_all(text.as_slice())?;\n',
+     '    let _ = rt.stdout().write_all(text.as_slice());\n',
+     'a failed write is not told'),
+    ('interlock',
+     '    rt.stdin().take(MOST_INPUT as u64).read_to_end(&mut input)?;\n',
+     '    let _ = rt.stdin().take(MOST_INPUT as u64).read_to_end(&mut input);\n',
+     'a failed read is not told'),
+    ('show',
+     'print!(rt; "{text}")?;',
+     'println!(rt; "{text}")?;',
+     'a line too many'),
+    ('show',
+     '    rt.stdin().read_to_end(&mut bytes)?;',
+     '    rt.stdin().take(64).read_to_end(&mut bytes)?;',
+     'only the front of the input is read'),
+]
+
+
 def reason(said):
     """The function and the goal that refuse a slip, and whether a goal failed or only a name is gone."""
     named = None
@@ -456,28 +489,45 @@ def reason(said):
     return named or "not compiled or not read: " + said.strip().split("\n")[-1][:200]
 
 
+def plant(path, old, new, tried):
+    """What `tried` says while the slip is in the file; nothing where it does not fit."""
+    with open(path, encoding="utf-8") as it:
+        text = it.read()
+    if text.count(old) != 1:
+        return None
+    with open(path, "w", encoding="utf-8") as it:
+        it.write(text.replace(old, new))
+    try:
+        return tried()
+    finally:
+        with open(path, "w", encoding="utf-8") as it:
+            it.write(text)
+
+
+def proved(crate):
+    run = subprocess.run(["rt", "check"], cwd=f"crates/{crate}", capture_output=True, text=True)
+    return "survived" if run.returncode == 0 else "refused: " + reason(run.stdout + run.stderr)
+
+
+def tested(crate):
+    """Whether the tests of the programs refuse the slip, which the proofs let through; those of the other program pass."""
+    subprocess.run(["rt", "run"], cwd=f"crates/{crate}", capture_output=True, stdin=subprocess.DEVNULL)
+    run = subprocess.run([".ci/programs"], capture_output=True, text=True)
+    told = [line.split(":")[0] for line in run.stdout.split("\n") if line.startswith(crate)]
+    return "refused: by a test, " + told[0] if told else "survived"
+
+
 def main():
     words = sys.argv[1:]
-    for crate, name, old, new, what in PLANTS:
-        if words and words != ["--fits"] and crate not in words:
+    fits = words == ["--fits"]
+    planted = [(crate, name, old, new, what, proved) for crate, name, old, new, what in PLANTS]
+    planted += [(crate, "src/main.rt", old, new, what, tested) for crate, old, new, what in PROGRAMS]
+    for crate, name, old, new, what, tried in planted:
+        if words and not fits and crate not in words:
             continue
-        path = f"crates/{crate}/{name}"
-        with open(path, encoding="utf-8") as it:
-            text = it.read()
-        if text.count(old) != 1:
-            print(f"{crate}: {what}: does not fit {name}")
-            continue
-        if words == ["--fits"]:
-            continue
-        with open(path, "w", encoding="utf-8") as it:
-            it.write(text.replace(old, new))
-        try:
-            run = subprocess.run(["rt", "check"], cwd=f"crates/{crate}", capture_output=True, text=True)
-        finally:
-            with open(path, "w", encoding="utf-8") as it:
-                it.write(text)
-        verdict = "survived" if run.returncode == 0 else "refused: " + reason(run.stdout + run.stderr)
-        print(f"{crate}, {name}: {what}: {verdict}", flush=True)
+        verdict = plant(f"crates/{crate}/{name}", old, new, lambda: "fits" if fits else tried(crate))
+        if not fits or verdict is None:
+            print(f"{crate}, {name}: {what}: {verdict or 'does not fit'}", flush=True)
 
 
 main()
