@@ -471,22 +471,20 @@ PROGRAMS = [
 
 
 def reason(said):
-    """The function and the goal that refuse a slip, and whether a goal failed or only a name is gone."""
-    named = None
-    for line in said.split("\n"):
-        step = re.search(r"proofs/([\w/]+)/(?:Answers|Invariants|Measures)\.antt:.*error: (?:`([\w-]+)`)?(.*)", line)
-        if step:
-            gone = re.search(r"has no (field )?`|is not in scope|Given` has no|Goals` has no", step[3]) or step[2] is None
-            if not gone:
-                return f"{step[1].replace('/', '::')}, {step[2]}"
-            named = named or f"only a name: {step[1].replace('/', '::')}"
-        search = re.search(r"fn (\S+): (?:no proof|not proved).*`search` did not prove (.*)", line)
+    """The function and the goal that refuse a slip, or that only a name is gone."""
+    lines = said.split("\n")
+    functions = [x for x in lines if re.match(r"fn \S+: no(t proved| proof)", x) and not re.search(r"it calls|waits for", x)]
+    function = functions[0].split()[1].rstrip(":").split("::", 1)[1] if functions else "?"
+    named = False
+    for line in lines:
+        step = re.search(r"proofs/\S+\.antt:.*error: (?:`([\w-]+)`)?(.*)", line)
+        if step and step[1] and not re.search(r"has no (field )?`|is not in scope|(Given|Goals)` has no", step[2]):
+            return f"{function}, {step[1]}"
+        named = named or step
+        search = re.search(r"did not prove (?:`([\w-]+)`)", line) or re.search(r"it is not proved that .*?\(`([\w-]+)`\)", line)
         if search:
-            return f"{search[1]}, {search[2].replace('`', '')}"
-        note = re.search(r"note: (src/\S+): it is not proved that (.*?)(?:;|$)", line)
-        if note:
-            return f"{note[1]}: {note[2].replace('`', '')}"
-    return named or "not compiled or not read: " + said.strip().split("\n")[-1][:200]
+            return f"{function}, {search[1]}"
+    return f"only a name, in {function}" if named else "not compiled or not read: " + lines[-1][:200]
 
 
 def plant(path, old, new, tried):
