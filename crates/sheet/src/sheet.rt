@@ -24,7 +24,8 @@ use polynomial::term::Term;
 use reduction::reduce::Work;
 
 // A table over a ring and a division, which of its pairs are marked, all its pairs in the order in which steps take them, and
-// the buffers of its calls. What the table keeps beside the terms of its rows agrees with them.
+// the buffers of its calls. What the table keeps beside the terms of its rows agrees with them; the queue has every pair of the
+// rows, in order; and the pairs before its `next` are not open.
 #[derive(Drop)]
 pub struct Sheet<F: Field, O: Order, D: Division> {
     pub(crate) ring: Ring<F, O>,
