@@ -1,5 +1,6 @@
 pub mod Monomial
 pub mod Order
+pub mod Digits
 pub mod Division
 pub mod Lists
 pub mod Orders

@@ -13,12 +13,12 @@ use Rattle.monomial.specs.Order.{Compare, UnderWide, OrderLaws, numbers, lexicog
 use Rattle.monomial.specs.Places.{length_times}
 
 -- what a comparison of numbers answers
-data Compared (a b : ℕ) : Ordering → Type 0 where
+pub data Compared (a b : ℕ) : Ordering → Type 0 where
   less : a < b → Compared a b Less
   equal : a ≡ b → Compared a b Equal
   greater : b < a → Compared a b Greater
 
-compared : (a b : ℕ) → Compared a b (numbers a b)
+pub compared : (a b : ℕ) → Compared a b (numbers a b)
 compared a b = go (cases_Bool (nat_lt a b)) (cases_Bool (nat_lt b a))
   where
     go : (nat_lt a b ≡ true) ⊎ (nat_lt a b ≡ false) → (nat_lt b a ≡ true) ⊎ (nat_lt b a ≡ false) → Compared a b (numbers a b)
@@ -27,7 +27,7 @@ compared a b = go (cases_Bool (nat_lt a b)) (cases_Bool (nat_lt b a))
     go (inr p) (inr q) = rw (p, q) (equal (omega (arith, ltb-false a b p, ltb-false b a q)))
 
 -- two comparisons that come out alike
-alike : {a b c d : ℕ} {o p : Ordering} → Compared a b o → Compared c d p → (a < b ↔ (c < d)) → (b < a ↔ (d < c)) → o ≡ p
+pub alike : {a b c d : ℕ} {o p : Ordering} → Compared a b o → Compared c d p → (a < b ↔ (c < d)) → (b < a ↔ (d < c)) → o ≡ p
 alike (less h) (less k) f g = refl
 alike (less h) (equal k) f g = absurd (omega (arith, f.0 h))
 alike (less h) (greater k) f g = absurd (omega (arith, f.0 h))

@@ -2,11 +2,12 @@
 // differs decides, and the smaller is greater.
 ghost use Rattle.std.specs.Prelude.{◌≡◌, reverse};
 ghost use Rattle.std.specs.Ordering.{ordering_reverse};
+ghost use Rattle.monomial.specs.Digits.{Digits, spelled};
 ghost use Rattle.monomial.specs.Order.{lexicographic, degree_reverse};
 ghost use Rattle.monomial.specs.Orders.{degree_reverse_laws};
 
+use crate::Monomial;
 use crate::order::Order;
-use crate::{Monomial, WIDTH};
 use std::cmp::Ordering;
 
 #[derive(Clone, Copy)]
@@ -28,14 +29,16 @@ impl Order for DegreeReverse {
 fn compare_from_last(a: &Monomial, b: &Monomial) -> Ordering
     ensures { result ≡ ordering_reverse (lexicographic (reverse a.now.exponents) (reverse b.now.exponents)) }
 {
-    // By index: two iterators from the back take a quarter more time in a whole completion.
-    for i in (0..WIDTH).rev() {
-        if a.exponents[i] < b.exponents[i] {
-            return Ordering::Greater;
-        }
-        if a.exponents[i] > b.exponents[i] {
-            return Ordering::Less;
-        }
-    }
-    Ordering::Equal
+    spell_from_last(b).cmp(&spell_from_last(a))
+}
+
+// The number that the exponents spell as digits in base 256, the last of them the highest: two such numbers are compared at
+// once, and not exponent by exponent. The lexicographic order does not do so: there the digits would have to be turned around
+// first, and that took longer.
+fn spell_from_last(m: &Monomial) -> u64
+    ensures number { result ≡ spelled (reverse m.now.exponents) }
+    ensures digits { Digits m.now.exponents }
+{
+    let [a, b, c, d, e, f] = m.exponents;
+    u64::from_le_bytes([a, b, c, d, e, f, 0, 0])
 }
