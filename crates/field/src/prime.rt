@@ -1,17 +1,24 @@
 // The integers modulo a prime up to 251.
-ghost use Rattle.std.specs.Prelude.{◌≡◌, ◌+◌, ◌%◌, ◌^◌, ◌<◌, true, false, MatchOption};
+ghost use Rattle.std.specs.Prelude.{◌≡◌, ◌+◌, ◌*◌, ◌/◌, ◌%◌, ◌^◌, ◌<◌, true, false, MatchOption};
 ghost use Rattle.field.specs.Primes.{listed, prime_meaning, ListedAreThePrimes};
 ghost use Rattle.field.specs.PrimeLaws.{prime_laws};
 
 use crate::Field;
 
 // A prime up to 251. It is below 256, so that a product of two elements fits a u16.
+// Its reciprocal stands beside it, so that a product is taken modulo p without a division.
 #[derive(Clone, Copy)]
 pub struct Prime {
     p: u16,
+    reciprocal: u32,
     ghost prime: { listed p ≡ true },
     ghost small: { (1 < p) × (p < 256) },
+    ghost inverse: { reciprocal ≡ 16777216 / p + 1 },
 }
+
+// A reciprocal stands for SCALE / p. SCALE, 16777216 in the clauses, is above 255 * 255 * 255, so that the rounding of
+// the reciprocal changes no quotient in `remainder`.
+const SCALE: u32 = 1 << 24;
 
 const PRIMES: [u16; 54] = [
     2, 3, 5, 7, 11, 13, 17, 19, 23, 29, 31, 37, 41, 43, 47, 53, 59, 61, 67, 71, 73, 79, 83, 89, 97,
@@ -26,7 +33,10 @@ impl Prime {
         ensures primes { ListedAreThePrimes }
     {
         if PRIMES.contains(&p) {
-            Some(Prime { p })
+            Some(Prime {
+                p,
+                reciprocal: SCALE / p as u32 + 1,
+            })
         } else {
             None
         }
@@ -60,7 +70,7 @@ impl Field for Prime {
 
     fn mul(&self, a: u16, b: u16) -> Option<u16> {
         if a < self.p && b < self.p {
-            Some((a * b) % self.p)
+            Some(remainder(a * b, self.p, self.reciprocal))
         } else {
             None
         }
@@ -82,6 +92,16 @@ fn wrap(x: u16, p: u16) -> u16
     ensures { result ≡ x % p }
 {
     if x < p { x } else { x - p }
+}
+
+// x modulo p, where x is below p * p: two products and a shift take less time than a division.
+// The reciprocal is above SCALE / p, but by so little that x * reciprocal / SCALE, rounded down, is x / p.
+fn remainder(x: u16, p: u16, reciprocal: u32) -> u16
+    requires { (1 < p) × (p < 256) × (x < p * p) × (reciprocal ≡ 16777216 / p + 1) }
+    ensures { result ≡ x % p }
+{
+    let quotient = (x as u32 * reciprocal / SCALE) as u16;
+    x - quotient * p
 }
 
 // a to the n modulo p: a turn for each binary digit of n.

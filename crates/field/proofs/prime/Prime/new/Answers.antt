@@ -7,7 +7,7 @@ pub invariant_of-result : goal.invariant_of-result
 unfolding listed
 invariant_of-result c =
     let t : listed c.args.p ≡ true = sym (stands_any c.args.p primes) ∙ sym c.contains.ensures.value ∙ c.if-contains.true in
-    record { prime = t; small = listed_bounds c.args.p t }
+    record { prime = t; small = listed_bounds c.args.p t; inverse = refl }
 
 pub returns-then-contains : goal.returns-then-contains
 unfolding listed
