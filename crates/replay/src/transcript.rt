@@ -1,6 +1,7 @@
 // A whole command file and its transcript.
 ghost use Rattle.std.specs.Prelude.{◌≡◌, take, IfOk};
 ghost use Rattle.involutive.specs.Complete.{CompleteTables, Verdict as VerdictTold};
+ghost use Rattle.involutive.specs.Examples.{NotEmpty};
 ghost use Rattle.involutive.specs.Facts.{FactsHold};
 ghost use Rattle.involutive.specs.Once.{OneAnswerEach};
 ghost use Rattle.involutive.specs.Sound.{SoundnessKept};
@@ -31,7 +32,8 @@ fn write(heap: Global, input: &[u8]) -> Result<Vec<u8>, AllocError>
 
 // The transcript of a command file, of which the first 60,000 bytes are read; only want of memory keeps it from being made. The other clauses are
 // what a reader of a transcript may rely on: a file has one transcript at most; tables are complete; the verdict tells
-// whether 1 lies in the ideal; every log leaves a sound sheet; each call has one answer; the worked cases come out as listed.
+// whether 1 lies in the ideal; every log leaves a sound sheet; each call has one answer; the worked cases come out as
+// listed; and examples show that all this speaks of something.
 pub fn transcript(heap: Global, input: &[u8]) -> Result<Vec<u8>, AllocError>
     ensures transcript { IfOk result (λ out. Transcript (take most_input input.now) out.items) }
     ensures one { OneTranscript }
@@ -40,6 +42,7 @@ pub fn transcript(heap: Global, input: &[u8]) -> Result<Vec<u8>, AllocError>
     ensures sound { SoundnessKept }
     ensures answers { OneAnswerEach }
     ensures facts { FactsHold }
+    ensures examples { NotEmpty }
 {
     write(heap, &input[..MOST_INPUT.min(input.len())])
 }

@@ -1,6 +1,7 @@
 use Rattle.std.proofs.Common.{take, ap, subst, ◌∙◌}
 use Rattle.std.proofs.lemmas.List.{take_min}
 use Rattle.involutive.proofs.Completeness.{complete}
+use Rattle.involutive.proofs.Examples.{not_empty}
 use Rattle.involutive.proofs.OneAnswer.{one_answer}
 use Rattle.involutive.proofs.Soundness.{soundness_kept}
 use Rattle.involutive.proofs.Verdicts.{verdict}
@@ -19,4 +20,5 @@ returns c = record {
   sound = soundness_kept;
   answers = one_answer;
   facts = all_hold;
+  examples = not_empty;
 }
