@@ -1,5 +1,5 @@
 -- What exists: the evaluator makes it, and the main theorem tells the sheets' ideals apart.
-use Rattle.std.proofs.Common.{◌≡◌, ℕ, false, eqb, List, [], ◌∷◌, length, drop, Some, None, Option, refl, sym, ap, ◌∙◌, subst, arith}
+use Rattle.std.proofs.Common.{◌≡◌, ℕ, false, eqb, List, [], ◌∷◌, ◌++◌, length, drop, Some, None, Option, refl, sym, ap, ◌∙◌, subst, arith}
 use lib.Seq.{take-append_seam}
 use Rattle.std.proofs.lemmas.Bool.{both_ways, eqb-false}
 use Rattle.monomial.specs.Monomial.{one, same}
@@ -9,7 +9,7 @@ use Rattle.polynomial.specs.Polynomial.{Poly, term, leading}
 use Rattle.polynomial.specs.Check.{most_terms}
 use Rattle.polynomial.specs.Bytes.{copy_bytes}
 use Rattle.polynomial.proofs.Checking.{acceptable_from}
-use Rattle.involutive.specs.Value.{plus, unit}
+use Rattle.involutive.specs.Value.{plus, product, unit}
 use Rattle.involutive.specs.Ideal.{combination, Member}
 use Rattle.involutive.specs.Sheet.{Setting, Lawful, State, Closed}
 use Rattle.involutive.specs.Answers.{first_fault, front, ReducesTo, remainder_written, copy_written}
@@ -17,13 +17,13 @@ use Rattle.involutive.specs.Reduction.{row, left}
 use Rattle.involutive.specs.Log.{Call, add}
 use Rattle.involutive.specs.Complete.{Granted, GrantedCopy, under_division}
 use Rattle.involutive.specs.Facts.{three, power, x1, x2, x1x2², x1²+2, x1x2+2, x1+2x2, x2²+2, two_adds, steps}
-use Rattle.involutive.specs.Examples.{Made, Proper, OneCopy, TwoCopies, NotEmpty}
+use Rattle.involutive.specs.Examples.{Made, Proper, Combined, OneCopy, TwoCopies, NotEmpty}
 use Rattle.involutive.proofs.Soundness
 use Rattle.involutive.proofs.Monomials
 use Rattle.involutive.proofs.Verdicts
 use Rattle.involutive.proofs.Completeness.{complete}
 use Rattle.involutive.proofs.Decided.{◌>>=◌, given, fails, lt?, same?, missing, each?, equal?, same_poly?}
-use Rattle.involutive.proofs.Evaluate.{fuel, reduce, Copy, fair_copy?, closed?, run}
+use Rattle.involutive.proofs.Evaluate.{tidy, fuel, reduce, Copy, fair_copy?, closed?, run}
 use Rattle.involutive.proofs.WorkedFacts.{no_unit?, three_lawful}
 
 -- lists of numbers that the test tells apart
@@ -77,6 +77,35 @@ module _ (S : Setting) (W : Lawful S) where
         h = h;
         third = subst (Granted S x.state h) e u.1;
         other = o;
+      })
+
+  abbrev combined? : (calls : List Call) (f g : Poly) → Option (Combined S calls)
+  combined? calls f g =
+      made? calls >>= λ x. remainder? x f >>= λ r. remainder? x g >>= λ t.
+      let a : Poly = tidy S.field S.order (plus f g) in
+      let b : Poly = tidy S.field S.order (product S.field f g) in
+      let c : Poly = tidy S.field S.order (product S.field r.0 t.0) in
+      equal? S.field a (plus f g) >>= λ ea. equal? S.field b (product S.field f g) >>= λ eb. equal? S.field c (product S.field r.0 t.0) >>= λ ec.
+      remainder? x a >>= λ u. remainder? x b >>= λ v. remainder? x c >>= λ w. same_poly? w.0 v.0 >>= λ e.
+      Some (record {
+        sheet = x;
+        f = f;
+        g = g;
+        r = r.0;
+        t = t.0;
+        first = r.1;
+        second = t.1;
+        sum = a;
+        is_sum = ea;
+        u = u.0;
+        of_sum = u.1;
+        fg = b;
+        is_fg = eb;
+        rt = c;
+        is_rt = ec;
+        w = v.0;
+        of_fg = v.1;
+        of_rt = subst (Granted S x.state c) e w.1;
       })
 
 -- two sheets, side by side
@@ -135,6 +164,7 @@ not_empty = record {
   sum = given (equal? three.field x1+2x2 (plus x1 (plus x2 x2))) tt;
   member = given (member? three (x2 ∷ (term 2 (power 1 0 0) ∷ []) ∷ []) (x1²+2 ∷ x1x2+2 ∷ []) x1+2x2 refl) tt;
   proper = given (proper? three three_lawful (steps 6 two_adds) x1x2² unit x1) tt;
+  combined = given (combined? three three_lawful (steps 6 two_adds) (x1x2² ++ x2) (x1 ++ unit)) tt;
   two_divisions = given (one_copy? three (under_division three thomas) three_lawful thomas_lawful (steps 21 two_adds) (steps 21 two_adds)) tt;
   laws = thomas_laws;
   one_division = given (one_copy? three three three_lawful three_lawful (steps 6 two_adds) (steps 1 (add x2²+2 ∷ add x1+2x2 ∷ []))) tt;

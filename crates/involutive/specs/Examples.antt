@@ -2,7 +2,7 @@
 use Rattle.std.specs.Prelude.{◌≡◌, ℕ, ◌<◌, List, [], ◌∷◌, length}
 use Rattle.monomial.specs.Division.{DivisionLaws, thomas}
 use Rattle.polynomial.specs.Polynomial.{Poly}
-use Rattle.involutive.specs.Value.{Equal, plus, unit}
+use Rattle.involutive.specs.Value.{Equal, plus, product, unit}
 use Rattle.involutive.specs.Ideal.{Member, SameIdeal}
 use Rattle.involutive.specs.Sheet.{Setting, Lawful, State, Closed}
 use Rattle.involutive.specs.Log.{Call, After, add}
@@ -34,6 +34,27 @@ pub record Proper (S : Setting) (calls : List Call) : Type 0 where
   pub third : Granted S sheet.state h r
   pub other : h ≡ f → ⊥
 
+-- two polynomials, their sum, their product and the product of their remainders, each with its remainder
+pub record Combined (S : Setting) (calls : List Call) : Type 0 where
+  pub sheet : Made S calls
+  pub f : Poly
+  pub g : Poly
+  pub r : Poly
+  pub t : Poly
+  pub first : Granted S sheet.state f r
+  pub second : Granted S sheet.state g t
+  pub sum : Poly
+  pub is_sum : Equal S.field sum (plus f g)
+  pub u : Poly
+  pub of_sum : Granted S sheet.state sum u
+  pub fg : Poly
+  pub is_fg : Equal S.field fg (product S.field f g)
+  pub rt : Poly
+  pub is_rt : Equal S.field rt (product S.field r t)
+  pub w : Poly
+  pub of_fg : Granted S sheet.state fg w
+  pub of_rt : Granted S sheet.state rt w
+
 -- two tables, and one fair copy
 pub record OneCopy (S T : Setting) (calls calls' : List Call) : Type 0 where
   pub here : Made S calls
@@ -60,6 +81,7 @@ pub record NotEmpty : Type 0 where
   -- a member that is none of the generators
   pub member : Member three.field three.variables (x1²+2 ∷ x1x2+2 ∷ []) x1+2x2
   pub proper : Proper three (steps 6 two_adds)
+  pub combined : Combined three (steps 6 two_adds)
   -- one log under two divisions
   pub two_divisions : OneCopy three (under_division three thomas) (steps 21 two_adds) (steps 21 two_adds)
   pub laws : DivisionLaws thomas

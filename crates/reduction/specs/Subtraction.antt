@@ -22,4 +22,4 @@ Subtracted F O n room h f (Err Long) out = Fits f × ((g : Poly) × Differs F O 
 -- why the terms f are not multiplied: they are more than 40, or else their multiple g has an exponent above 40
 abbrev pub Unscaled : Poly → Poly → Reason → Type 0
 Unscaled f g Long = most_terms < length f
-Unscaled f g Wide = Fits g → ⊥
+Unscaled f g Wide = (length f ≤ most_terms) × (Fits g → ⊥)

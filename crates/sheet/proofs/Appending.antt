@@ -38,7 +38,7 @@ module _ (A : Type 0) (g m : Poly) where
   pub too_large : (r : Result (Unit {0}) Reason) → is_err r ≡ true → length g ≤ most_terms → MatchResult r (λ _. A) (Unscaled g m) → Fits m → ⊥
   too_large (Ok u) e l s f = absurd (false≢true e)
   too_large (Err Long) e l s f = omega (arith, s, l)
-  too_large (Err Wide) e l s f = s f
+  too_large (Err Wide) e l s f = s.1 f
 
   pub multiplied : (r : Result (Unit {0}) Reason) → is_err r ≡ false → MatchResult r (λ _. A) (Unscaled g m) → A
   multiplied (Ok u) e s = s

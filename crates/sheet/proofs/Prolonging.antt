@@ -38,4 +38,4 @@ module _ (F : FieldMeaning) (O : Compare) (D : Split) (n : ℕ) (rows : List Row
           MatchResult r (λ _. Fits (scaled F 1 (variable v) (row (table_of rows) k)) × (out ≡ scaled F 1 (variable v) (row (table_of rows) k))) (λ _. Fits (scaled F 1 (variable v) (row (table_of rows) k)) → ⊥)
       go (Ok u) s = (subst Fits y s.0, s.1 ∙ y)
       go (Err Long) l = absurd (let m = subst (λ z. length z ≤ most_terms) (sym t) good.acceptable.short in omega (arith, l, m))
-      go (Err Wide) d = λ f. d (subst Fits (sym y) f)
+      go (Err Wide) d = λ f. d.1 (subst Fits (sym y) f)

@@ -6,7 +6,8 @@ use Rattle.reduction.proofs.Multiples.{fits_yes, fits_no, images}
 use Rattle.reduction.proofs.scale.scale.Goals as goal
 
 pub returns-then-not-fits-clause-value : goal.returns-then-not-fits-clause-value
-returns-then-not-fits-clause-value g c n o p = fits_no (g.F.Field.meaning c.args.field.now) c.args.factor.now.coefficient (exponents c.args.factor.now) c.args.terms.now (sym c.if-not-fits.ensures)
+returns-then-not-fits-clause-value g c n o p =
+    (omega arith, fits_no (g.F.Field.meaning c.args.field.now) c.args.factor.now.coefficient (exponents c.args.factor.now) c.args.terms.now (sym c.if-not-fits.ensures))
 
 pub returns-clause-value : goal.returns-clause-value
 returns-clause-value g c n o p =
