@@ -1,17 +1,12 @@
 -- A new sheet is sound.
-use Rattle.std.proofs.Common.{◌≡◌, ℕ, Bool, false, List, [], sym, refl, ap, ◌∙◌, subst, arith}
+use Rattle.std.proofs.Common.{◌≡◌, ℕ, Bool, false, List, [], sym, refl, ap, ◌∙◌, subst}
 use Rattle.involutive.specs.Sheet.{Setting, Lawful, empty}
 use Rattle.involutive.specs.Log.{After, made}
 use Rattle.involutive.specs.Sound.{Sound}
 use Rattle.involutive.proofs.Soundness
 use Rattle.reduction.specs.declared.table.Row.{Row}
-use Rattle.reduction.specs.Table.{SoundTable}
 use Rattle.sheet.specs.Making.{Begins}
 use Rattle.sheet.specs.Marks.{marked, state_of}
-
--- a table without rows agrees with what is kept beside them
-pub begins_table : (S : Setting) (rows : List Row) → rows ≡ [] → SoundTable S rows
-begins_table S rows e = subst (SoundTable S) (sym e) (λ i r h d. absurd (omega (arith, h)))
 
 pub begins : (S : Setting) → Lawful S → (rows : List Row) (xs : List (List Bool)) → rows ≡ [] → ((k v : ℕ) → marked xs k v ≡ false) → Begins S S (state_of rows xs)
 begins S W rows xs e m = record {

@@ -189,14 +189,3 @@ filled_end O n leads picks m b F = record {
   where
     long : length (leads ++ (m ∷ [])) ≡ length leads + 1
     long = length-append leads (m ∷ [])
-
-pub queued_none : (O : Compare) (n : ℕ) → Queued O n [] []
-queued_none O n = record {
-  wide = λ k x. absurd (omega (arith, x));
-  rows = λ i h. absurd (omega (arith, h));
-  variables = λ i h. absurd (omega (arith, h));
-  heights = λ i h. absurd (omega (arith, h));
-  rises = λ i j h k. absurd (omega (arith, k));
-  all = λ k v x s. absurd (⊎_elim (λ y. omega (arith, y)) (λ y. omega (arith, y.1, x.0)) s);
-  few = omega arith;
-}

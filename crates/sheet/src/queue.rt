@@ -1,5 +1,6 @@
-// The pairs of a sheet in the order in which steps take them: the one whose row's leading monomial times its variable is
-// smaller comes first, and of two with one such product the one of the lower row.
+// Every row of a sheet with each variable, in the order in which steps take them: the pair whose row's leading monomial times its
+// variable is smaller comes first, and of two with one such product the one of the lower row. Those at a multiplicative variable
+// stand among them, since that may change with the next row; they are not open.
 //
 // A step marks the first pair that is open. So the pairs before it stay closed until a row is appended, and no step looks at
 // them again. The contracts here say what the code does on every value; that the first open pair is the chosen one is shown of
