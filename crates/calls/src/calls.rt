@@ -23,41 +23,40 @@ pub trait Calls {
     fn add(&mut self, f: &[Term]) -> Result<usize, Refusal>
         ensures kept { setting self.new ≡ setting self.old }
         ensures refused { OnErr result (state self.new ≡ state self.old) }
-        ensures stays { Sound (setting self.old) (state self.old) → Sound (setting self.new) (state self.new) }
-        ensures answer { Sound (setting self.old) (state self.old) → Adds (setting self.old) (state self.old) f.now (added result) (state self.new) }
-        ensures logged { Sound (setting self.old) (state self.old) → LoggedAdd (setting self.old) (log_of.add f.now) f.now (added result) (state self.old) (state self.new) };
+        ensures answer { Adds (setting self.old) (state self.old) f.now (added result) (state self.new) }
+        ensures logged { LoggedAdd (setting self.old) (log_of.add f.now) f.now (added result) (state self.old) (state self.new) };
 
     fn step(&mut self) -> Result<Step, Refusal>
         ensures kept { setting self.new ≡ setting self.old }
         ensures refused { OnErr result (state self.new ≡ state self.old) }
-        ensures stays { Sound (setting self.old) (state self.old) → Sound (setting self.new) (state self.new) }
-        ensures answer { Sound (setting self.old) (state self.old) → Steps (setting self.old) (state self.old) (stepped result) (state self.new) }
-        ensures logged { Sound (setting self.old) (state self.old) → Logged (setting self.old) log_of.step (state self.old) (state self.new) };
+        ensures answer { Steps (setting self.old) (state self.old) (stepped result) (state self.new) }
+        ensures logged { Logged (setting self.old) log_of.step (state self.old) (state self.new) };
 
     fn remainder(&mut self, f: &[Term], out: &mut [Term]) -> Result<usize, Refusal>
         ensures kept { setting self.new ≡ setting self.old }
         ensures same { state self.new ≡ state self.old }
-        ensures stays { Sound (setting self.old) (state self.old) → Sound (setting self.new) (state self.new) }
         ensures within { MatchResult result (λ n. n ≤ length out.old) (λ _. out.new ≡ out.old) }
-        ensures answer { Sound (setting self.old) (state self.old) → Remains (setting self.old) (state self.old) f.now out.old (wrote result) out.new }
-        ensures logged { Sound (setting self.old) (state self.old) → Logged (setting self.old) (log_of.remainder f.now out.old) (state self.old) (state self.new) };
+        ensures answer { Remains (setting self.old) (state self.old) f.now out.old (wrote result) out.new }
+        ensures logged { Logged (setting self.old) (log_of.remainder f.now out.old) (state self.old) (state self.new) };
 
     fn row(&self, number: usize, out: &mut [Term]) -> Result<usize, Refusal>
         ensures within { MatchResult result (λ n. n ≤ length out.old) (λ _. out.new ≡ out.old) }
-        ensures answer { Sound (setting self.now) (state self.now) → Shows (setting self.now) (state self.now) number out.old (wrote result) out.new }
-        ensures logged { Sound (setting self.now) (state self.now) → Logged (setting self.now) (log_of.show_row number out.old) (state self.now) (state self.now) };
+        ensures answer { Shows (setting self.now) (state self.now) number out.old (wrote result) out.new }
+        ensures logged { Logged (setting self.now) (log_of.show_row number out.old) (state self.now) (state self.now) };
 
     fn fair_copy(&mut self, out: &mut [u8]) -> Result<Copied, Refusal>
         ensures kept { setting self.new ≡ setting self.old }
         ensures same { state self.new ≡ state self.old }
-        ensures stays { Sound (setting self.old) (state self.old) → Sound (setting self.new) (state self.new) }
         ensures within { MatchResult result (λ c. c.bytes ≤ length out.old) (λ _. out.new ≡ out.old) }
-        ensures answer { Sound (setting self.old) (state self.old) → FairCopies (setting self.old) (state self.old) out.old (copied result) out.new }
-        ensures logged { Sound (setting self.old) (state self.old) → Logged (setting self.old) (log_of.fair_copy out.old) (state self.old) (state self.new) };
+        ensures answer { FairCopies (setting self.old) (state self.old) out.old (copied result) out.new }
+        ensures logged { Logged (setting self.old) (log_of.fair_copy out.old) (state self.old) (state self.new) };
 
     fn verdict(&self) -> Result<Verdict, Refusal>
-        ensures answer { Sound (setting self.now) (state self.now) → Judges (setting self.now) (state self.now) (judged result) }
-        ensures logged { Sound (setting self.now) (state self.now) → Logged (setting self.now) log_of.verdict (state self.now) (state self.now) };
+        ensures answer { Judges (setting self.now) (state self.now) (judged result) }
+        ensures logged { Logged (setting self.now) log_of.verdict (state self.now) (state self.now) };
 
     ghost lawful: { (x : Self) → Lawful (setting x) };
+
+    // Whatever value there is of the type, its state is sound.
+    ghost sound: { (x : Self) → ∥ Sound (setting x) (state x) ∥₁ };
 }

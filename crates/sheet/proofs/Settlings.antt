@@ -10,9 +10,9 @@ use Rattle.polynomial.specs.Polynomial.{Poly, Over, leading, leading_coefficient
 use Rattle.polynomial.specs.Check.{Acceptable, Fits, most_terms}
 use Rattle.involutive.specs.Value.{scaled}
 use Rattle.involutive.specs.Reduction.{Outcome, left, refused, refuse, Reduces}
-use Rattle.involutive.specs.Sheet.{Setting, State, most_rows, with_row}
+use Rattle.involutive.specs.Sheet.{Setting, Lawful, State, most_rows, with_row}
 use Rattle.involutive.specs.Answers.{ReducesTo}
-use Rattle.involutive.specs.Sound.{Row as Good}
+use Rattle.involutive.specs.Sound.{Sound, Row as Good}
 use Rattle.involutive.proofs.Soundness
 use Rattle.calls.specs.declared.refusal.Refusal.{Refusal}
 use Rattle.calls.specs.declared.refusal.Refusal.TheVariants.{Full}
@@ -22,9 +22,10 @@ use Rattle.reduction.specs.Reducing.{number, outcome as reduced}
 use Rattle.reduction.specs.declared.table.Row.{Row}
 use Rattle.reduction.specs.Table.{terms_of, table_of, SoundTable}
 use Rattle.sheet.specs.declared.settle.Settled.TheVariants.{Nothing, Appended as SettledAppended}
+use Rattle.sheet.specs.declared.settle.Settled.{Settled}
 use Rattle.sheet.specs.Marks.{marked, state_of}
 use Rattle.sheet.specs.Rows.{lead_of, Appended}
-use Rattle.sheet.specs.Settling.{outcome, Settles, nothing, full, appends}
+use Rattle.sheet.specs.Settling.{outcome, Settles, stuck, nothing, full, appends}
 use Rattle.sheet.proofs.Whole.{Whole}
 use Rattle.sheet.proofs.Standing.{stands}
 
@@ -99,3 +100,10 @@ settle_leads {g = []} len R E = absurd (let p = R.some in omega (arith, p))
 settle_leads {S = S} {rows = rows} {new = new} {g = t ∷ g} len R E =
     let b = says t g R new (Ok tt) len E in
     (((taken t g R).written.over t (Memᴰ.head refl)).1.wide, b.1.leads, b.0)
+
+-- settling keeps a sheet sound
+pub settles_sound : {S : Setting} {s s' : State} {h : Poly} {r : Result Settled Refusal} → Lawful S → Acceptable S.field S.order S.variables h → Settles S s h r s' → Sound S s → Sound S s'
+settles_sound W a (stuck R) I = I
+settles_sound W a (nothing R) I = I
+settles_sound W a (full R m) I = I
+settles_sound {S = S} W a (appends R l) I = let w = Soundness.reduces_acceptable S W R a in Soundness.new_row S W I l w.0 w.1

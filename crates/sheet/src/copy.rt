@@ -1,15 +1,15 @@
 // The fair copy: the rows that no other divides, each with its other terms reduced, as bytes.
-ghost use Rattle.std.specs.Prelude.{◌≡◌, ℕ, ◌+◌, ◌≤◌, Bool, List, [], ◌++◌, length, IfOk, vec_len, vec_capacity, MatchResult};
+ghost use Rattle.std.specs.Prelude.{◌≡◌, ℕ, ◌+◌, ◌≤◌, Bool, List, [], ◌++◌, map, length, IfOk, vec_len, vec_capacity, MatchResult};
 ghost use mathlib.Core.List.{Memᴰ};
-ghost use Rattle.monomial.specs.Division.{Within};
+ghost use Rattle.monomial.specs.Division.{Distinct, Within};
 ghost use Rattle.polynomial.specs.Bytes.{poly_bytes, bytes_needed};
 ghost use Rattle.involutive.specs.Reduction.{row as line};
 ghost use Rattle.involutive.specs.Sheet.{Closed, most_rows};
-ghost use Rattle.involutive.specs.Sound.{Sound};
 ghost use Rattle.involutive.specs.Answers.{FairCopies};
 ghost use Rattle.calls.specs.Told.{copied};
 ghost use Rattle.reduction.specs.Table.{setting, table_of};
 ghost use Rattle.sheet.specs.Marks.{state_of};
+ghost use Rattle.sheet.specs.Rows.{lead_of};
 ghost use Rattle.sheet.specs.Copying.{row_room, copy_room, RowCopied, RowsCopied, Delivered};
 
 use crate::put::put;
@@ -136,7 +136,7 @@ impl<F: Field, O: Order, D: Division> Rows<'_, F, O, D> {
     ) -> Result<Copied, Refusal>
         requires { length self.now.rows.now ≤ most_rows }
         ensures within { MatchResult result (λ c. c.bytes ≤ length out.old) (λ _. out.new ≡ out.old) }
-        ensures answer { let S = setting (F.Field.meaning self.now.ring.now.field) (O.Order.meaning self.now.ring.now.order) (D.Division.meaning self.now.division.now) self.now.ring.now.variables in (xs : List (List Bool)) → Sound S (state_of self.now.rows.now xs) → Closed S (state_of self.now.rows.now xs) → FairCopies S (state_of self.now.rows.now xs) out.old (copied result) out.new }
+        ensures answer { let S = setting (F.Field.meaning self.now.ring.now.field) (O.Order.meaning self.now.ring.now.order) (D.Division.meaning self.now.division.now) self.now.ring.now.variables in (xs : List (List Bool)) → Distinct (map lead_of self.now.rows.now) → Closed S (state_of self.now.rows.now xs) → FairCopies S (state_of self.now.rows.now xs) out.old (copied result) out.new }
     {
         self.select(&mut buffer.list);
         self.copy_rows(buffer.list.as_slice(), work, &mut buffer.bytes)?;

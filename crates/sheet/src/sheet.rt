@@ -3,6 +3,7 @@ ghost use Rattle.std.specs.Prelude.{◌≡◌, ◌≤◌, map, Some, None, OnErr
 ghost use Rattle.polynomial.specs.declared.refusal.Refusal.{Refusal as Unfit};
 ghost use Rattle.polynomial.specs.Check.{Acceptable, fault};
 ghost use Rattle.involutive.specs.Answers.{Adds};
+ghost use Rattle.involutive.specs.Sound.{Sound};
 ghost use Rattle.calls.specs.Told.{added};
 ghost use Rattle.calls.specs.declared.refusal.Refusal.TheVariants.{Polynomial};
 ghost use Rattle.reduction.specs.Table.{setting, SoundTable};
@@ -39,6 +40,7 @@ pub struct Sheet<F: Field, O: Order, D: Division> {
     ghost few: { ring.variables ≤ 6 },
     ghost agrees: { SoundTable (setting (F.Field.meaning ring.field) (O.Order.meaning ring.order) (D.Division.meaning division) ring.variables) table.rows.items } by { agreement_prop _ _ },
     ghost queued: { Queued (O.Order.meaning ring.order) ring.variables (map lead_of table.rows.items) queue.picks.items } by { queued_prop _ _ _ _ },
+    ghost sound: { ∥ Sound (setting (F.Field.meaning ring.field) (O.Order.meaning ring.order) (D.Division.meaning division) ring.variables) (state_of table.rows.items (rows_of marks)) ∥₁ },
     ghost passed: { Passed table.rows.items (rows_of marks) queue.picks.items queue.next },
 }
 

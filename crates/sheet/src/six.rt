@@ -22,6 +22,8 @@ impl<F: Field, O: Order, D: Division> Calls for Sheet<F, O, D> {
 
     ghost lawful = { λ x. record { field = F.Field.laws x.ring.field; order = O.Order.laws x.ring.order; division = D.Division.laws x.division; variables = (x.some, x.few) } };
 
+    ghost sound = { λ x. x.sound };
+
     // The sheet's own method of this name does it.
     fn add(&mut self, f: &[Term]) -> Result<usize, Refusal> {
         self.add(f)

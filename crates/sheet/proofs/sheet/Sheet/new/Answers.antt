@@ -11,3 +11,10 @@ returns g c =
     let S = setting (g.F.Field.meaning x.field) (g.O.Order.meaning x.order) (g.D.Division.meaning c.args.division) x.variables in
     let W : Lawful S = record { field = g.met.F.Field.laws x.field; order = g.met.O.Order.laws x.order; division = g.met.D.Division.laws c.args.division; variables = (omega arith, omega arith) } in
     record { made = begins S W (vec_items c.in_ok-table.table.rows) (rows_of c.none.result) c.in_ok-table.ensures c.none.ensures }
+
+pub invariant_of-result-clause-sound : goal.invariant_of-result-clause-sound
+invariant_of-result-clause-sound g c =
+    let x = c.args.ring in
+    let S = setting (g.F.Field.meaning x.field) (g.O.Order.meaning x.order) (g.D.Division.meaning c.args.division) x.variables in
+    let W : Lawful S = record { field = g.met.F.Field.laws x.field; order = g.met.O.Order.laws x.order; division = g.met.D.Division.laws c.args.division; variables = (omega arith, omega arith) } in
+    ∣ (begins S W (vec_items c.in_ok-table.table.rows) (rows_of c.none.result) c.in_ok-table.ensures c.none.ensures).sound ∣₁

@@ -1,4 +1,5 @@
 use Rattle.std.proofs.Common.{◌≡◌, ℕ, ◌+◌, ◌≤◌, List, [], ◌∷◌, ◌++◌, map, length, Err, vec_items, vec_len, sym, refl, ap, ◌∙◌, subst, arith, rules, length-append}
+use Rattle.std.proofs.Math.Logic.{∥∥₁_map}
 use lib.ListN.{length-map}
 use Rattle.monomial.specs.Monomial.{Wide}
 use Rattle.polynomial.specs.Polynomial.{leading}
@@ -8,7 +9,7 @@ use Rattle.std.proofs.lemmas.Bool.{eqb-true}
 use Rattle.sheet.specs.Marks.{rows_of}
 use Rattle.sheet.specs.Settling.{stuck}
 use Rattle.sheet.proofs.Whole.{whole}
-use Rattle.sheet.proofs.Settlings.{at_rows, rest_of, settle_nothing, settle_full, settle_appends, settle_stands, settle_leads}
+use Rattle.sheet.proofs.Settlings.{at_rows, rest_of, settle_nothing, settle_full, settle_appends, settle_stands, settle_leads, settles_sound}
 use Rattle.sheet.proofs.sheet.Sheet.settle.Goals as goal
 
 pub returns-in_err-reduce-clause-settles : goal.returns-in_err-reduce-clause-settles
@@ -68,3 +69,11 @@ invariant_of-self-3-clause-queued g c =
 
 pub invariant_of-self-3-clause-passed : goal.invariant_of-self-3-clause-passed
 invariant_of-self-3-clause-passed g c = λ j h. absurd (let z = c.push_row.ensures.next in omega (arith, z, h))
+
+pub invariant_of-self-3-clause-sound : goal.invariant_of-self-3-clause-sound
+invariant_of-self-3-clause-sound g c =
+    let x = c.args.self.now in
+    let W = whole (g.met.F.Field.laws x.ring.field) (g.met.O.Order.laws x.ring.order) (g.met.D.Division.laws x.division) x.some x.few (vec_items x.table.rows) x.agrees in
+    let R = rest_of W c.requires c.as_slice.ensures.value c.as_slice-left.ensures.value c.in_ok-reduce.ensures c.if-is_empty.ensures in
+    let k : vec_len x.table.rows ≡ length (vec_items x.table.rows) = search rules in
+    ∥∥₁_map x.sound (settles_sound W.lawful c.requires (settle_appends (rows_of x.marks) (vec_len x.table.rows) k (rows_of c.none-self.result) R c.none-self.ensures (c.in_ok-append.ensures.rows x.ring.variables)))

@@ -1,4 +1,8 @@
-use Rattle.std.proofs.Common.{◌≡◌, ◌<◌, Err, length, vec_items, vec_len, ap, ◌∙◌, arith, rules}
+use Rattle.std.proofs.Common.{◌≡◌, ◌<◌, Err, length, vec_items, vec_len, sym, ap, ap₂, ◌∙◌, subst, arith, rules}
+use Rattle.involutive.specs.Sound.{Sound}
+use Rattle.reduction.specs.Table.{setting}
+use Rattle.std.proofs.Math.Logic.{∥∥₁_map}
+use Rattle.involutive.proofs.Soundness
 use borrow.Author.Tests.{tests}
 use Rattle.calls.specs.declared.refusal.Refusal.TheVariants.{Wide}
 use Rattle.reduction.proofs.Renaming.{renamed, unrefused}
@@ -78,4 +82,8 @@ invariant_of-self-in-Nothing-2 g c =
     let P : Passed (vec_items y.table.rows) (rows_of y.marks) (vec_items y.queue.picks) c.args.at = rw (k.0, k.1, q) c.requires.passed in
     let h : c.args.at < length (vec_items y.queue.picks) = rw q c.requires.waits.0 in
     let e : c.index-pick.result.now ≡ _ = c.index-pick.ensures in
-    record { some = y.some; few = y.few; agrees = y.agrees; queued = y.queued; passed = passed_more (vec_items y.table.rows) (rows_of y.marks) (rows_of c.mark.new.self) (vec_items y.queue.picks) c.args.at c.index-pick.result.now P h (rw q e) c.mark.ensures }
+    let W = whole (g.met.F.Field.laws x.ring.field) (g.met.O.Order.laws x.ring.order) (g.met.D.Division.laws x.division) x.some x.few (vec_items x.table.rows) x.agrees in
+    let C = chosen_some W (rows_of x.marks) x.queued c.args.at c.index-pick.result.now c.requires.passed c.requires.waits c.index-pick.ensures in
+    let L = prolonged_of W C c.prolong.result (vec_items c.prolong.new.out.terms) c.as_slice.ensures.value c.prolong.ensures (unrefused c.prolong.result c.map_err.result _ c.map_err.ensures.cases c.in_ok-map_err.field-0 c.in_ok-map_err.was) in
+    let Z = treat_marked L c.in_ok-settle.field-0 (vec_items y.table.rows) (rows_of y.marks) (rows_of c.mark.new.self) c.in-Nothing.is c.in_ok-settle.ensures.settles c.mark.ensures in
+    record { some = y.some; few = y.few; agrees = y.agrees; queued = y.queued; sound = ∥∥₁_map x.sound (λ I. subst (λ T. Sound T (state_of (vec_items y.table.rows) (rows_of c.mark.new.self))) (let q = c.settle.ensures.setting in ap₂ (λ r d. setting (g.F.Field.meaning r.field) (g.O.Order.meaning r.order) (g.D.Division.meaning d) r.variables) (sym q.0) (sym q.1)) (Soundness.steps (setting (g.F.Field.meaning x.ring.field) (g.O.Order.meaning x.ring.order) (g.D.Division.meaning x.division) x.ring.variables) W.lawful I Z)); passed = passed_more (vec_items y.table.rows) (rows_of y.marks) (rows_of c.mark.new.self) (vec_items y.queue.picks) c.args.at c.index-pick.result.now P h (rw q e) c.mark.ensures }

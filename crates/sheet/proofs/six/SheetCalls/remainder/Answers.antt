@@ -10,7 +10,7 @@ use Rattle.sheet.proofs.Settlings.{at_rows}
 use Rattle.sheet.proofs.six.SheetCalls.remainder.Goals as goal
 
 pub returns-in_err-check_closed-clause-answer : goal.returns-in_err-check_closed-clause-answer
-returns-in_err-check_closed-clause-answer g c I =
+returns-in_err-check_closed-clause-answer g c =
     let x = c.args.self.now in
     let W = whole (g.met.F.Field.laws x.ring.field) (g.met.O.Order.laws x.ring.order) (g.met.D.Division.laws x.division) x.some x.few (vec_items x.table.rows) x.agrees in
     let t = c.in_err-check_closed.ensures in
@@ -19,10 +19,10 @@ returns-in_err-check_closed-clause-answer g c I =
     rw z (remainder_open (is_open W (rows_of x.marks) x.queued t.1 t.2))
 
 pub returns-in_err-check_closed-clause-logged : goal.returns-in_err-check_closed-clause-logged
-returns-in_err-check_closed-clause-logged g c I calls gs a = After.reduced a (returns-in_err-check_closed-clause-answer g c I)
+returns-in_err-check_closed-clause-logged g c calls gs a = After.reduced a (returns-in_err-check_closed-clause-answer g c)
 
 pub returns-in_err-take-clause-answer : goal.returns-in_err-take-clause-answer
-returns-in_err-take-clause-answer g c I =
+returns-in_err-take-clause-answer g c =
     let x = c.args.self.now in
     let W = whole (g.met.F.Field.laws x.ring.field) (g.met.O.Order.laws x.ring.order) (g.met.D.Division.laws x.division) x.some x.few (vec_items x.table.rows) x.agrees in
     let t = c.in_err-take.ensures in
@@ -31,10 +31,10 @@ returns-in_err-take-clause-answer g c I =
     rw z (remainder_faulty (is_closed W (rows_of x.marks) x.queued x.queue.picks.ok.0 c.in_ok-check_closed.ensures) t.1)
 
 pub returns-in_err-take-clause-logged : goal.returns-in_err-take-clause-logged
-returns-in_err-take-clause-logged g c I calls gs a = After.reduced a (returns-in_err-take-clause-answer g c I)
+returns-in_err-take-clause-logged g c calls gs a = After.reduced a (returns-in_err-take-clause-answer g c)
 
 pub returns-in_err-reduce-clause-answer : goal.returns-in_err-reduce-clause-answer
-returns-in_err-reduce-clause-answer g c I =
+returns-in_err-reduce-clause-answer g c =
     let x = c.args.self.now in
     let xs = rows_of x.marks in
     let W = whole (g.met.F.Field.laws x.ring.field) (g.met.O.Order.laws x.ring.order) (g.met.D.Division.laws x.division) x.some x.few (vec_items x.table.rows) x.agrees in
@@ -43,10 +43,10 @@ returns-in_err-reduce-clause-answer g c I =
     rw z (remainder_stuck (is_closed W xs x.queued x.queue.picks.ok.0 c.in_ok-check_closed.ensures) t.1 (at_rows xs c.as_slice.ensures.value t.2 c.in_err-reduce.ensures))
 
 pub returns-in_err-reduce-clause-logged : goal.returns-in_err-reduce-clause-logged
-returns-in_err-reduce-clause-logged g c I calls gs a = After.reduced a (returns-in_err-reduce-clause-answer g c I)
+returns-in_err-reduce-clause-logged g c calls gs a = After.reduced a (returns-in_err-reduce-clause-answer g c)
 
 pub returns-clause-answer : goal.returns-clause-answer
-returns-clause-answer g c I =
+returns-clause-answer g c =
     let x = c.args.self.now in
     let xs = rows_of x.marks in
     let W = whole (g.met.F.Field.laws x.ring.field) (g.met.O.Order.laws x.ring.order) (g.met.D.Division.laws x.division) x.some x.few (vec_items x.table.rows) x.agrees in
@@ -54,4 +54,4 @@ returns-clause-answer g c I =
     remains_put (is_closed W xs x.queued x.queue.picks.ok.0 c.in_ok-check_closed.ensures) t.1 (at_rows xs c.as_slice.ensures.value t.2 c.in_ok-reduce.ensures) c.put.result c.as_slice-2.ensures.value c.put.ensures
 
 pub returns-clause-logged : goal.returns-clause-logged
-returns-clause-logged g c I calls gs a = After.reduced a (returns-clause-answer g c I)
+returns-clause-logged g c calls gs a = After.reduced a (returns-clause-answer g c)

@@ -6,17 +6,17 @@ use Rattle.sheet.proofs.Puttings.{shows_put, row_is, has_row, no_row}
 use Rattle.sheet.proofs.six.SheetCalls.row.Goals as goal
 
 pub returns-then-number-eq0-clause-answer : goal.returns-then-number-eq0-clause-answer
-returns-then-number-eq0-clause-answer g c I =
+returns-then-number-eq0-clause-answer g c =
     let rows = vec_items c.args.self.now.table.rows in
     let z : vec_len c.args.self.now.table.rows ≡ length rows = search rules in
     let o : Within c.args.number (length rows) → ⊥ = search rules in
     row_absent (no_row rows c.args.number o)
 
 pub returns-then-number-eq0-clause-logged : goal.returns-then-number-eq0-clause-logged
-returns-then-number-eq0-clause-logged g c I calls gs a = After.shown a (returns-then-number-eq0-clause-answer g c I)
+returns-then-number-eq0-clause-logged g c calls gs a = After.shown a (returns-then-number-eq0-clause-answer g c)
 
 pub returns-clause-answer : goal.returns-clause-answer
-returns-clause-answer g c I =
+returns-clause-answer g c =
     let rows = vec_items c.args.self.now.table.rows in
     let n = c.args.number in
     let z : vec_len c.args.self.now.table.rows ≡ length rows = search rules in
@@ -24,4 +24,4 @@ returns-clause-answer g c I =
     shows_put n (has_row rows n w) c.put.result (c.as_slice.ensures.value ∙ row_is rows n c.index.result.now w c.index.ensures) c.put.ensures
 
 pub returns-clause-logged : goal.returns-clause-logged
-returns-clause-logged g c I calls gs a = After.shown a (returns-clause-answer g c I)
+returns-clause-logged g c calls gs a = After.shown a (returns-clause-answer g c)
