@@ -38,9 +38,9 @@ module _ {S : Setting} {s₀ : State} {log₀ : List Call} {at₀ : ℕ} {bs₀ 
     is_so = (w.log, w.accepted, w.onward s w.log t (r w.log), w.stands);
   }
 
-  pub reached_act : {new ops rest : List ℕ} {b at' : ℕ} {s' : State} {g' : Poly} → Lawful S → CommandAt bs b ops rest → at' ≡ at + (operand_bytes b + 1) → (Sound S s → Acts S s g at b ops s' g' after new) → Reached S s₀ log₀ at₀ bs₀ before after s g at bs → Reached S s₀ log₀ at₀ bs₀ before new s' g' at' rest
-  reached_act {rest = rest} {s' = s'} {g' = g'} W k e f w =
-      let a = f (sound S W w.stands) w.log in
+  pub reached_act : {new ops rest : List ℕ} {b at' : ℕ} {s' : State} {g' : Poly} → CommandAt bs b ops rest → at' ≡ at + (operand_bytes b + 1) → Acts S s g at b ops s' g' after new → Reached S s₀ log₀ at₀ bs₀ before after s g at bs → Reached S s₀ log₀ at₀ bs₀ before new s' g' at' rest
+  reached_act {rest = rest} {s' = s'} {g' = g'} k e f w =
+      let a = f w.log in
       let d = after_does w.stands a.is_so.1 in
       record {
         text = w.text ++ a.text;
@@ -110,8 +110,8 @@ call_stop {S = S} {s = s} {g = g} {at = at} bs (Misplaced b) h log = subst (λ b
 pub long : {bs ops rest : List ℕ} {b : ℕ} → CommandAt bs b ops rest → length bs ≡ 1 + (operand_bytes b + length rest)
 long {ops = ops} {rest = rest} k = let e = length-append ops rest in let l = ap length k.bytes in let w = k.operands in omega (arith, e, l, w)
 
-pub acts_under : {S S' : Setting} {s s' : State} {g g' : Poly} {at b : ℕ} {ops before after : List ℕ} → S' ≡ S → (Sound S' s → Acts S' s g at b ops s' g' before after) → Sound S s → Acts S s g at b ops s' g' before after
-acts_under {s = s} {s' = s'} {g = g} {g' = g'} {at = at} {b = b} {ops = ops} {before = before} {after = after} e f = subst (λ S. Sound S s → Acts S s g at b ops s' g' before after) e f
+pub acts_under : {S S' : Setting} {s s' : State} {g g' : Poly} {at b : ℕ} {ops before after : List ℕ} → S' ≡ S → Acts S' s g at b ops s' g' before after → Acts S s g at b ops s' g' before after
+acts_under {s = s} {s' = s'} {g = g} {g' = g'} {at = at} {b = b} {ops = ops} {before = before} {after = after} e f = subst (λ S. Acts S s g at b ops s' g' before after) e f
 
 pub not_sheet : (c : Command) → ((o : Bor (List ℕ)) → c ≡ Sheet o → ⊥) → 0 < byte_of c
 not_sheet (Sheet o) f = absurd (f o refl)

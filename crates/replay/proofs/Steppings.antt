@@ -6,7 +6,6 @@ use Rattle.involutive.specs.Answers.{Answer, marked_answer, appended_answer, Ste
 use Rattle.calls.specs.declared.answer.Step.{Step}
 use Rattle.calls.specs.Told.{stepped}
 use Rattle.involutive.specs.Log.{Call, step}
-use Rattle.involutive.specs.Sound.{Sound}
 use Rattle.replay.specs.Replay.{Stepping, marks, appends}
 
 -- where the steps made so far stand: whatever the steps left come to, all of them come to
@@ -34,8 +33,8 @@ pub stood_first : {S : Setting} {s : State} {log : List Call} {n left : ℕ} →
 stood_first {S = S} {s = s} {log = log} {left = left} q = record { log = log; onward = λ k e s' log' r. subst (λ n. Stepping S s log n (0 + k) e s' log') q (subst (λ x. Stepping S s log left x e s' log') (omega arith) r) }
 
 -- a step's answer under a setting that is the same
-pub said : {S S' : Setting} {s s' : State} {a : Answer} → S' ≡ S → Sound S s → (Sound S' s → Steps S' s a s') → Steps S s a s'
-said {s = s} {s' = s'} {a = a} e w f = subst (λ S. Steps S s a s') e (f (subst (λ S. Sound S s) (sym e) w))
+pub said : {S S' : Setting} {s s' : State} {a : Answer} → S' ≡ S → Steps S' s a s' → Steps S s a s'
+said {s = s} {s' = s'} {a = a} e f = subst (λ S. Steps S s a s') e f
 
 pub known : {S : Setting} {s s' : State} {a b : Step} → a ≡ b → Steps S s (stepped (Ok a)) s' → Steps S s (stepped (Ok b)) s'
 known {S = S} {s = s} {s' = s'} e st = subst (λ a. Steps S s (stepped (Ok a)) s') e st

@@ -4,7 +4,6 @@ ghost use Rattle.std.specs.Option.{option_map};
 ghost use Rattle.polynomial.specs.Polynomial.{Poly};
 ghost use Rattle.involutive.specs.Log.{Call};
 ghost use Rattle.involutive.specs.Sheet.{empty};
-ghost use Rattle.involutive.specs.Sound.{Sound};
 ghost use Rattle.calls.specs.Told.{told};
 ghost use Rattle.replay.specs.Words.{gather, term_of};
 ghost use Rattle.replay.specs.Grammar.{byte_of, operands_of, ReadsCall};
@@ -37,7 +36,7 @@ fn next_call<'a>(input: &'a [u8]) -> Result<Option<(Command<'a>, &'a [u8])>, Sto
 // Up to so many steps, until the sheet is closed or a step is denied.
 fn repeat_step<C: Calls>(sheet: &mut C, count: u16) -> Steps
     ensures kept { C.Calls.setting sheet.new ≡ C.Calls.setting sheet.old }
-    ensures steps { Sound (C.Calls.setting sheet.old) (C.Calls.state sheet.old) → (log : List Call) → (log' : List Call) × Stepping (C.Calls.setting sheet.old) (C.Calls.state sheet.old) log count result.granted (option_map told result.denial) (C.Calls.state sheet.new) log' }
+    ensures steps { (log : List Call) → (log' : List Call) × Stepping (C.Calls.setting sheet.old) (C.Calls.state sheet.old) log count result.granted (option_map told result.denial) (C.Calls.state sheet.new) log' }
 {
     'steps: for granted in 0..count {
         match sheet.step() {
@@ -100,7 +99,7 @@ impl Replay {
 
     fn add<C: Calls>(&mut self, sheet: &mut C, at: usize) -> Result<(), AllocError>
         ensures kept { C.Calls.setting sheet.new ≡ C.Calls.setting sheet.old }
-        ensures acts { OnOk result (Sound (C.Calls.setting sheet.old) (C.Calls.state sheet.old) → Acts (C.Calls.setting sheet.old) (C.Calls.state sheet.old) self.old.gathered.items at 2 [] (C.Calls.state sheet.new) self.new.gathered.items self.old.text.items self.new.text.items) }
+        ensures acts { OnOk result (Acts (C.Calls.setting sheet.old) (C.Calls.state sheet.old) self.old.gathered.items at 2 [] (C.Calls.state sheet.new) self.new.gathered.items self.old.text.items self.new.text.items) }
     {
         let answer = sheet.add(self.gathered.as_slice());
         self.gathered.clear();
@@ -114,7 +113,7 @@ impl Replay {
         at: usize,
     ) -> Result<(), AllocError>
         ensures kept { C.Calls.setting sheet.new ≡ C.Calls.setting sheet.old }
-        ensures acts { OnOk result (Sound (C.Calls.setting sheet.old) (C.Calls.state sheet.old) → Acts (C.Calls.setting sheet.old) (C.Calls.state sheet.old) self.old.gathered.items at 3 operands.now (C.Calls.state sheet.new) self.new.gathered.items self.old.text.items self.new.text.items) }
+        ensures acts { OnOk result (Acts (C.Calls.setting sheet.old) (C.Calls.state sheet.old) self.old.gathered.items at 3 operands.now (C.Calls.state sheet.new) self.new.gathered.items self.old.text.items self.new.text.items) }
     {
         let steps = repeat_step(sheet, u16::from_be_bytes(*operands));
         stepped(at, steps).write_to(&mut self.text)
@@ -122,7 +121,7 @@ impl Replay {
 
     fn remainder<C: Calls>(&mut self, sheet: &mut C, at: usize) -> Result<(), AllocError>
         ensures kept { C.Calls.setting sheet.new ≡ C.Calls.setting sheet.old }
-        ensures acts { OnOk result (Sound (C.Calls.setting sheet.old) (C.Calls.state sheet.old) → Acts (C.Calls.setting sheet.old) (C.Calls.state sheet.old) self.old.gathered.items at 4 [] (C.Calls.state sheet.new) self.new.gathered.items self.old.text.items self.new.text.items) }
+        ensures acts { OnOk result (Acts (C.Calls.setting sheet.old) (C.Calls.state sheet.old) self.old.gathered.items at 4 [] (C.Calls.state sheet.new) self.new.gathered.items self.old.text.items self.new.text.items) }
     {
         let answer = sheet.remainder(self.gathered.as_slice(), &mut self.terms);
         self.gathered.clear();
@@ -130,7 +129,7 @@ impl Replay {
     }
 
     fn row<C: Calls>(&mut self, sheet: &C, operands: &[u8; 1], at: usize) -> Result<(), AllocError>
-        ensures acts { OnOk result (Sound (C.Calls.setting sheet.now) (C.Calls.state sheet.now) → Acts (C.Calls.setting sheet.now) (C.Calls.state sheet.now) self.old.gathered.items at 5 operands.now (C.Calls.state sheet.now) self.new.gathered.items self.old.text.items self.new.text.items) }
+        ensures acts { OnOk result (Acts (C.Calls.setting sheet.now) (C.Calls.state sheet.now) self.old.gathered.items at 5 operands.now (C.Calls.state sheet.now) self.new.gathered.items self.old.text.items self.new.text.items) }
     {
         let answer = sheet.row(usize::from(operands[0]), &mut self.terms);
         shown(at, Command::Row(operands), answer, &self.terms).write_to(&mut self.text)
@@ -138,14 +137,14 @@ impl Replay {
 
     fn fair_copy<C: Calls>(&mut self, sheet: &mut C, at: usize) -> Result<(), AllocError>
         ensures kept { C.Calls.setting sheet.new ≡ C.Calls.setting sheet.old }
-        ensures acts { OnOk result (Sound (C.Calls.setting sheet.old) (C.Calls.state sheet.old) → Acts (C.Calls.setting sheet.old) (C.Calls.state sheet.old) self.old.gathered.items at 6 [] (C.Calls.state sheet.new) self.new.gathered.items self.old.text.items self.new.text.items) }
+        ensures acts { OnOk result (Acts (C.Calls.setting sheet.old) (C.Calls.state sheet.old) self.old.gathered.items at 6 [] (C.Calls.state sheet.new) self.new.gathered.items self.old.text.items self.new.text.items) }
     {
         let answer = sheet.fair_copy(&mut self.bytes);
         copied(at, answer, &self.bytes).write_to(&mut self.text)
     }
 
     fn verdict<C: Calls>(&mut self, sheet: &C, at: usize) -> Result<(), AllocError>
-        ensures acts { OnOk result (Sound (C.Calls.setting sheet.now) (C.Calls.state sheet.now) → Acts (C.Calls.setting sheet.now) (C.Calls.state sheet.now) self.old.gathered.items at 7 [] (C.Calls.state sheet.now) self.new.gathered.items self.old.text.items self.new.text.items) }
+        ensures acts { OnOk result (Acts (C.Calls.setting sheet.now) (C.Calls.state sheet.now) self.old.gathered.items at 7 [] (C.Calls.state sheet.now) self.new.gathered.items self.old.text.items self.new.text.items) }
     {
         let answer = sheet.verdict().map(|verdict| verdict.number());
         answered(at, Command::Verdict, answer).write_to(&mut self.text)
@@ -160,7 +159,7 @@ impl Replay {
         at: usize,
     ) -> Result<(), AllocError>
         ensures kept { C.Calls.setting sheet.new ≡ C.Calls.setting sheet.old }
-        ensures acts { OnOk result (0 < byte_of command.entry → Sound (C.Calls.setting sheet.old) (C.Calls.state sheet.old) → Acts (C.Calls.setting sheet.old) (C.Calls.state sheet.old) self.old.gathered.items at (byte_of command.entry) (operands_of command.entry) (C.Calls.state sheet.new) self.new.gathered.items self.old.text.items self.new.text.items) }
+        ensures acts { OnOk result (0 < byte_of command.entry → Acts (C.Calls.setting sheet.old) (C.Calls.state sheet.old) self.old.gathered.items at (byte_of command.entry) (operands_of command.entry) (C.Calls.state sheet.new) self.new.gathered.items self.old.text.items self.new.text.items) }
     {
         match command {
             // It was refused where it was read.

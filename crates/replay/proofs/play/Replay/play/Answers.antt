@@ -17,4 +17,4 @@ loop-command-preserved g c =
     let k = call_some c.loop-command.rest.now c.in-Ok-Some.field-0-is c.in-Ok-Some.ensures in
     let l = long k.1 in
     let i = c.loop-command.invariant in
-    (c.act.ensures.kept ∙ i.0, omega (arith, l, i.1), λ n log gs a. reached_act (g.met.C.Calls.lawful c.args.sheet.now) k.1 (omega (arith, l, i.1)) (acts_under i.0 (c.in_ok-act-in-Ok-Some.ensures.acts k.0)) (i.2 n log gs a))
+    (c.act.ensures.kept ∙ i.0, omega (arith, l, i.1), λ n log gs a. reached_act k.1 (omega (arith, l, i.1)) (acts_under i.0 (c.in_ok-act-in-Ok-Some.ensures.acts k.0)) (i.2 n log gs a))
