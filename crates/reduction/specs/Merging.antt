@@ -1,6 +1,6 @@
 -- What the code of a subtraction computes on every value, sound or not, one term after another.
 -- Only contracts of private functions use these words; no public contract does.
-use Rattle.std.specs.Prelude.{◌≡◌, ℕ, ◌+◌, ◌<◌, ◌≤◌, min, Bool, true, ◌&&◌, List, [], ◌∷◌, ◌++◌, length, Ok, Err, Result, nat_le, slice_index_or}
+use Rattle.std.specs.Prelude.{◌≡◌, ℕ, ◌+◌, ◌<◌, ◌≤◌, min, Bool, true, false, ◌&&◌, List, [], ◌∷◌, ◌++◌, length, Ok, Err, Result, nat_le, slice_index_or}
 use Rattle.std.specs.declared.cmp.Ordering.TheVariants.{Less, Equal, Greater}
 use Rattle.std.specs.List.{list_all}
 use Rattle.std.specs.Option.{unwrap_or}
@@ -9,6 +9,8 @@ use Rattle.monomial.specs.Order.{Compare}
 use Rattle.polynomial.specs.declared.term.Term.{Term}
 use Rattle.polynomial.specs.Polynomial.{Poly, term, exponents}
 use Rattle.polynomial.specs.Check.{largest_exponent}
+use Rattle.reduction.specs.declared.refusal.Reason.{Reason}
+use Rattle.reduction.specs.declared.refusal.Reason.TheVariants.{Wide, Long}
 
 -- the field's operations on any two numbers: 0 where one is no code
 abbrev pub code_sum : FieldMeaning → ℕ → ℕ → ℕ
@@ -63,3 +65,8 @@ module _ (F : FieldMeaning) (O : Compare) where
 -- when s is added to h, `part` of the sum is settled and `rest` of h is left
 abbrev pub Meets : FieldMeaning → Compare → Term → Poly → Poly → Poly → Type 0
 Meets F O s h part rest = (f g : Poly) → Sums F O rest f g → Sums F O h (s ∷ f) (part ++ g)
+
+-- why the terms f are not multiplied by the monomial a, whatever they are: they are more than 40, or else an exponent is above 40
+abbrev pub NotMultiplied : Poly → List ℕ → Reason → Type 0
+NotMultiplied f a Long = 40 < length f
+NotMultiplied f a Wide = (length f ≤ 40) × (all_small a f ≡ false)

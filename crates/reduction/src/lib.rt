@@ -17,8 +17,8 @@ pub mod reduce;
 pub mod refusal;
 mod room;
 pub mod scale;
-pub mod search;
-pub mod subtract;
+mod search;
+mod subtract;
 pub mod table;
 #[cfg(test)]
 mod tests;

@@ -17,3 +17,11 @@ returns-clause-value g c n o p =
     let small = sym c.if-not-fits.ensures in
     let whole : vec_items c.loop-term.out.terms ≡ map (image F c.args.factor.now.coefficient a) f = c.loop-term.invariant ∙ ap (map (image F c.args.factor.now.coefficient a)) (take_all c.loop-term.term-index f (omega arith)) in
     (fits_yes F c.args.factor.now.coefficient a f small, whole ∙ images F (g.met.F.Field.laws c.args.field.now) n c.args.factor.now.coefficient a f p o small)
+
+pub returns-clause-exact : goal.returns-clause-exact
+returns-clause-exact g c =
+    let F = g.F.Field.meaning c.args.field.now in
+    let a = exponents c.args.factor.now in
+    let f = c.args.terms.now in
+    let whole : vec_items c.loop-term.out.terms ≡ map (image F c.args.factor.now.coefficient a) f = c.loop-term.invariant ∙ ap (map (image F c.args.factor.now.coefficient a)) (take_all c.loop-term.term-index f (omega arith)) in
+    (omega arith, sym c.if-not-fits.ensures, whole)
