@@ -3,7 +3,7 @@ ghost use Rattle.std.specs.Prelude.{◌≡◌, take, IfOk};
 ghost use Rattle.involutive.specs.Complete.{CompleteTables, Verdict as VerdictTold};
 ghost use Rattle.involutive.specs.Examples.{NotEmpty};
 ghost use Rattle.involutive.specs.Facts.{FactsHold};
-ghost use Rattle.involutive.specs.Once.{OneAnswerEach};
+ghost use Rattle.involutive.specs.Once.{OneAnswerEach, OneState};
 ghost use Rattle.involutive.specs.Sound.{SoundnessKept};
 ghost use Rattle.replay.specs.Replay.{Transcript, OneTranscript, most_input};
 
@@ -41,6 +41,7 @@ pub fn transcript(heap: Global, input: &[u8]) -> Result<Vec<u8>, AllocError>
     ensures verdict { VerdictTold }
     ensures sound { SoundnessKept }
     ensures answers { OneAnswerEach }
+    ensures states { OneState }
     ensures facts { FactsHold }
     ensures examples { NotEmpty }
 {

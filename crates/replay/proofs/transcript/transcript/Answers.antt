@@ -2,7 +2,7 @@ use Rattle.std.proofs.Common.{take, ap, subst, ◌∙◌}
 use Rattle.std.proofs.lemmas.List.{take_min}
 use Rattle.involutive.proofs.Completeness.{complete}
 use Rattle.involutive.proofs.Examples.{not_empty}
-use Rattle.involutive.proofs.OneAnswer.{one_answer}
+use Rattle.involutive.proofs.OneAnswer.{one_answer, one_state}
 use Rattle.involutive.proofs.Soundness.{soundness_kept}
 use Rattle.involutive.proofs.Verdicts.{verdict}
 use Rattle.involutive.proofs.WorkedFacts.{all_hold}
@@ -19,6 +19,7 @@ returns c = record {
   verdict = verdict;
   sound = soundness_kept;
   answers = one_answer;
+  states = one_state;
   facts = all_hold;
   examples = not_empty;
 }
