@@ -24,15 +24,11 @@ use Rattle.reduction.specs.Reducing.{number}
 use Rattle.reduction.proofs.Acting
 use Rattle.reduction.proofs.Acting.{Clean, Action}
 use Rattle.reduction.proofs.AddingUp.{Extended, extend_all}
+use Rattle.reduction.proofs.Mapping.{element}
 use Rattle.reduction.proofs.Divisors.{involutive_yes, involutive_no}
 use Rattle.reduction.proofs.Standing
 use Rattle.reduction.proofs.Standing.{Stands, moved, ended}
 use Rattle.reduction.proofs.Terms.{Each}
-
-element : {X : Type 0} (xs : List X) (i : ℕ) → i < length xs → (x : X) × (x ≡ get_or xs i x)
-element [] i h = absurd (omega arith)
-element (x ∷ xs) zero h = (x, refl)
-element (x ∷ xs) (suc i) h = element xs i (omega arith)
 
 low : (i : ℕ) → suc i - 1 ≡ i
 low i = omega arith

@@ -1,4 +1,5 @@
 pub mod Table
+pub mod Agreement
 pub mod Search
 pub mod Subtraction
 pub mod Merging

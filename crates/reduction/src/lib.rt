@@ -8,14 +8,18 @@
 // scale     a multiple of a polynomial
 // merge     adding up two lists of terms
 // subtract  subtracting a multiple of a row
+// prolong   a row times a variable
 // reduce    reducing until no term has a divisor
+// rows      the rows of a table, lent, and what is reduced by them
 #![tactic(auto)]
 
 pub mod buffer;
 mod merge;
+mod prolong;
 pub mod reduce;
 pub mod refusal;
 mod room;
+pub mod rows;
 pub mod scale;
 mod search;
 mod subtract;

@@ -1,22 +1,22 @@
 // Reducing by a table until no term has an involutive divisor.
 ghost use Rattle.std.specs.Prelude.{◌≡◌, ℕ, ◌<◌, ◌≤◌, [], length, drop, IfOk, MatchResult};
 ghost use Rattle.monomial.specs.Monomial.{In, quotient as divided};
-ghost use Rattle.monomial.specs.Division.{Split};
 ghost use Rattle.polynomial.specs.Polynomial.{Written};
 ghost use Rattle.polynomial.specs.Check.{Acceptable, most_terms};
 ghost use Rattle.involutive.specs.Value.{scaled};
-ghost use Rattle.involutive.specs.Reduction.{Reduces};
-ghost use Rattle.reduction.specs.Table.{setting, terms_of, table_of, SoundTable};
+ghost use Rattle.reduction.specs.Table.{setting, terms_of, table_of};
 ghost use Rattle.reduction.specs.Subtraction.{Subtracted};
-ghost use Rattle.reduction.specs.Reducing.{outcome};
+ghost use Rattle.reduction.specs.Reducing.{Reduced};
 
 use crate::buffer::{Buffer, NoRoom};
 use crate::refusal::{Denied, Reason};
 use crate::room::Room;
+use crate::rows::Rows;
 use crate::search::find_reducible;
 use crate::subtract::{quotient, subtract};
 use crate::table::Row;
 use field::Field;
+use monomial::division::Division;
 use monomial::order::Order;
 use polynomial::ring::Ring;
 use polynomial::term::Term;
@@ -50,12 +50,13 @@ fn cancel<F: Field, O: Order>(
     )
 }
 
-// The buffers that reducing needs: what is still to be reduced, what is done, and one for the differences.
+// The memory that reducing needs: what is still to be reduced, what is done, and room for the differences. Behind a call
+// that reduces, `done` has what is left.
 #[derive(Drop)]
 pub struct Work {
-    pub rest: Buffer,
+    pub(crate) rest: Buffer,
     pub done: Buffer,
-    pub spare: Buffer,
+    pub(crate) spare: Buffer,
 }
 
 impl Work {
@@ -70,39 +71,46 @@ impl Work {
     }
 
     // These terms are to be reduced, where they are at most 40; else nothing changes.
-    pub fn load(&mut self, terms: &[Term]) -> Result<(), NoRoom>
+    pub(crate) fn load(&mut self, terms: &[Term]) -> Result<(), NoRoom>
         ensures { MatchResult result (λ _. (length terms.now ≤ most_terms) × (self.new.rest.terms.items ≡ terms.now)) (λ _. (most_terms < length terms.now) × (self.new.rest.terms.items ≡ self.old.rest.terms.items)) }
     {
         self.rest.load(terms)
     }
+}
 
-    // Reduces what `rest` holds by the table, into `done`, with room for that many terms and never more than 40.
-    // Terms without a divisor go to `done` and never change again; the difference of the others is made in `spare`.
-    pub fn reduce_within<F: Field, O: Order>(
-        &mut self,
-        ring: &Ring<F, O>,
-        table: &[Row],
-        room: usize,
-    ) -> Result<(), Denied>
-        ensures { (D : Split) (n : ℕ) → SoundTable (setting (F.Field.meaning ring.now.field) (O.Order.meaning ring.now.order) D n) table.now → Acceptable (F.Field.meaning ring.now.field) (O.Order.meaning ring.now.order) n self.old.rest.terms.items → room ≤ most_terms → length self.old.rest.terms.items ≤ room → Reduces (F.Field.meaning ring.now.field) (O.Order.meaning ring.now.order) D n (table_of table.now) room self.old.rest.terms.items (outcome result self.new.done.terms.items) }
+impl<F: Field, O: Order, D: Division> Rows<'_, F, O, D> {
+    // Reduces what `rest` holds into `done`, with room for so many terms. Terms without a divisor go to `done` and never
+    // change again; the difference of the others is made in `spare`.
+    pub(crate) fn reduce_within(&self, room: Room, work: &mut Work) -> Result<(), Denied>
+        requires acceptable { Acceptable (F.Field.meaning self.now.ring.now.field) (O.Order.meaning self.now.ring.now.order) self.now.ring.now.variables work.old.rest.terms.items }
+        requires room { length work.old.rest.terms.items ≤ room.terms }
+        ensures { Reduced (setting (F.Field.meaning self.now.ring.now.field) (O.Order.meaning self.now.ring.now.order) (D.Division.meaning self.now.division.now) self.now.ring.now.variables) (table_of self.now.rows.now) room.terms work.old.rest.terms.items result work.new.done.terms.items }
     {
-        let Work { rest, done, spare } = self;
-        let most = Room::new(room);
+        let table = self.rows;
+        let Work { rest, done, spare } = work;
         done.clear();
         for _ in 0..MONOMIALS {
             let terms = rest.terms.as_slice();
             match find_reducible(table, terms) {
                 None => {
-                    // There is room where the contract promises anything, here and below.
-                    let _ = done.extend(terms, most);
+                    // There is room, here and below.
+                    let _ = done.extend(terms, room);
                     return Ok(());
                 }
                 Some((i, k)) => {
-                    let _ = done.extend(&terms[..i], most);
-                    let free = most.after(done.terms.len());
-                    cancel(ring, &table[k], &terms[i], &terms[i + 1..], free, spare).map_err(
-                        |reason| Denied { reason, row: k + 1 },
-                    )?;
+                    let _ = done.extend(&terms[..i], room);
+                    let free = room.after(done.terms.len());
+                    if let Err(reason) = cancel(
+                        self.ring,
+                        &table[k],
+                        &terms[i],
+                        &terms[i + 1..],
+                        free,
+                        spare,
+                    ) {
+                        done.clear();
+                        return Err(reason.at(k + 1));
+                    }
                     std::mem::swap(rest, spare);
                 }
             }

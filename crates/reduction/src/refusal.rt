@@ -1,10 +1,13 @@
 // Why reducing is refused.
 ghost use Rattle.std.specs.Prelude.{◌≡◌};
-ghost use Rattle.reduction.specs.Reducing.{number as number_of};
+ghost use Rattle.involutive.specs.Reduction.{refuse};
+ghost use Rattle.reduction.specs.Reducing.{number as number_of, told};
 ghost use Rattle.reduction.specs.declared.refusal.Reason.TheVariants.{Long as TooLong};
 
 use crate::buffer::NoRoom;
+use polynomial::refusal::Refusal as Unfit;
 
+// Why a multiple is not made, or what is left behind its subtraction not kept.
 #[derive(Clone, Copy, PartialEq, Eq, Debug)]
 pub enum Reason {
     // An exponent of the multiple is above 40.
@@ -23,6 +26,16 @@ impl Reason {
             Reason::Long => 10,
         }
     }
+
+    // The refusal of what was tried with that row.
+    pub(crate) fn at(self, row: usize) -> Denied
+        ensures { told result ≡ refuse (number_of self) row }
+    {
+        match self {
+            Reason::Wide => Denied::Wide(row),
+            Reason::Long => Denied::Long(row),
+        }
+    }
 }
 
 impl From<NoRoom> for Reason {
@@ -33,9 +46,13 @@ impl From<NoRoom> for Reason {
     }
 }
 
-// A refusal, and the number of the row whose multiple was to be subtracted, from 1.
+// Why a polynomial is not reduced. Rows are named by their numbers, from 1.
 #[derive(Clone, Copy, PartialEq, Eq, Debug)]
-pub struct Denied {
-    pub reason: Reason,
-    pub row: usize,
+pub enum Denied {
+    // It fails a check.
+    Polynomial(Unfit),
+    // An exponent of a multiple of that row is above 40.
+    Wide(usize),
+    // More terms than there is room for are left after a multiple of that row was subtracted.
+    Long(usize),
 }

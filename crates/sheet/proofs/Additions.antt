@@ -1,32 +1,53 @@
--- What add answers, from what became of the generator.
-use Rattle.std.proofs.Common.{◌≡◌, ℕ, ◌<◌, ◌≤◌, [], ◌∷◌, length, None, Ok, Err, Result, MatchResult, subst, arith, length-append}
+-- What add answers, from what reducing the generator answered and what became of what was left.
+use Rattle.std.proofs.Common.{◌≡◌, ℕ, List, ◌∷◌, [], length, Some, None, Ok, Err, Result, sym, ap, ◌∙◌, subst, subst₂, arith, length-append}
 use Rattle.monomial.specs.Monomial.{one}
 use Rattle.polynomial.specs.Polynomial.{Poly}
 use Rattle.polynomial.specs.Check.{most_terms}
+use Rattle.involutive.specs.Reduction.{Table, left, Reduces}
 use Rattle.involutive.specs.Value.{scaled}
-use Rattle.involutive.specs.Sheet.{Setting, State, with_row}
-use Rattle.involutive.specs.Answers.{rows_now, denied, first_fault, Adds, add_stuck, add_zero, add_full, add_row}
+use Rattle.involutive.specs.Sheet.{Setting, Lawful, State, with_row}
+use Rattle.involutive.specs.Answers.{rows_now, denied, first_fault, ReducesTo, Adds, add_faulty, add_stuck, add_zero, add_full, add_row}
+use Rattle.involutive.proofs.Soundness
 use Rattle.calls.specs.declared.refusal.Refusal.{Refusal}
 use Rattle.calls.specs.Told.{told}
+use Rattle.reduction.specs.declared.refusal.Denied.{Denied}
+use Rattle.reduction.specs.declared.table.Row.{Row}
+use Rattle.reduction.specs.Table.{table_of}
+use Rattle.reduction.specs.Reducing.{ChecksAndReduces, unfit, fit, told as told_of}
 use Rattle.sheet.specs.declared.settle.Settled.{Settled}
-use Rattle.sheet.specs.Settling.{Settles, stuck, nothing, full, appends}
+use Rattle.sheet.specs.Settling.{Left, Settles, nothing, full, appends}
 
-pub loaded : {E : Type 0} (f old new : Poly) (r : Result (Unit {0}) E) → length f ≤ most_terms → MatchResult r (λ _. (length f ≤ most_terms) × (new ≡ f)) (λ _. (most_terms < length f) × (new ≡ old)) → new ≡ f
-loaded f old new (Ok u) l e = e.1
-loaded f old new (Err x) l e = absurd (let k = e.0 in omega arith)
+-- reducing by the slice of the rows is reducing by the rows
+pub by_rows : {S : Setting} {slice rows : List Row} {f g : Poly} {r q : Result (Unit {0}) Denied} → slice ≡ rows → r ≡ q → ChecksAndReduces S (table_of slice) f r g → ChecksAndReduces S (table_of rows) f q g
+by_rows {S} {f = f} {g = g} e d = subst₂ (λ x y. ChecksAndReduces S (table_of x) f y g) e d
 
-settled_rows : {S : Setting} {s s' : State} {f : Poly} {x : Settled} → first_fault S f ≡ None → Settles S s f (Ok x) s' → Adds S s f (rows_now (length s'.rows)) s'
-settled_rows e (nothing R) = add_zero e R
-settled_rows {S} {s} {f = f} e (appends {t = t} {g = g} R l) = let k = length-append s.rows (scaled S.field (S.field.inv t.coefficient) one (t ∷ g) ∷ []) in subst (λ n. Adds S s f (rows_now n) (with_row S s (t ∷ g))) (omega (arith, k)) (add_row e R l)
+-- a generator that is not reduced is denied
+pub adds_unreduced : {S : Setting} {s : State} {f g : Poly} {d : Denied} → ChecksAndReduces S s.rows f (Err d) g → Adds S s f (denied (told_of d)) s
+adds_unreduced (unfit e) = add_faulty e
+adds_unreduced (fit e R) = add_stuck e R.comes
 
-denied_rows : {S : Setting} {s s' : State} {f : Poly} {d : Refusal} → first_fault S f ≡ None → Settles S s f (Err d) s' → Adds S s f (denied (told d)) s'
-denied_rows e (stuck R) = add_stuck e R
-denied_rows e (full R m) = add_full e R m
+-- what is left of one that is reduced
+pub record Taken (S : Setting) (T : Table) (f g : Poly) : Type 0 where
+  pub faultless : first_fault S f ≡ None
+  pub reduced : Reduces S.field S.order S.division S.variables T most_terms f (left g)
 
--- h is the generator, as it was taken up and settled
-module _ {S : Setting} {s s' : State} {f h : Poly} (e : first_fault S f ≡ None) (l : h ≡ f) where
-  pub adds_settled : {x : Settled} {n : ℕ} → length s'.rows ≡ n → Settles S s h (Ok x) s' → Adds S s f (rows_now n) s'
-  adds_settled {x = x} k q = subst (λ n. Adds S s f (rows_now n) s') k (settled_rows e (subst (λ y. Settles S s y (Ok x) s') l q))
+pub taken : {S : Setting} {T : Table} {f g : Poly} → ChecksAndReduces S T f (Ok tt) g → Taken S T f g
+taken (fit e R) = record { faultless = e; reduced = R.comes }
 
-  pub adds_denied : {d : Refusal} → Settles S s h (Err d) s' → Adds S s f (denied (told d)) s'
-  adds_denied {d = d} q = denied_rows e (subst (λ y. Settles S s y (Err d) s') l q)
+pub left_of : {S : Setting} {T : Table} {f g : Poly} → Lawful S → Taken S T f g → Left S T g
+left_of {S} {f = f} W K = record { whole = f; acceptable = Soundness.no_fault S W f K.faultless; reduced = K.reduced }
+
+adds_rows : {S : Setting} {s s' : State} {f g : Poly} {x : Settled} → first_fault S f ≡ None → ReducesTo S s most_terms f (left g) → Settles S s g (Ok x) s' → Adds S s f (rows_now (length s'.rows)) s'
+adds_rows e R nothing = add_zero e R
+adds_rows {S} {s} {f = f} e R (appends {t = t} {g = g} l) =
+    let k = length-append s.rows (scaled S.field (S.field.inv t.coefficient) one (t ∷ g) ∷ []) in
+    subst (λ n. Adds S s f (rows_now n) (with_row S s (t ∷ g))) (omega (arith, k)) (add_row e R l)
+
+pub adds_settled : {S : Setting} {s s' : State} {f g : Poly} {x : Settled} {n : ℕ} → Taken S s.rows f g → length s'.rows ≡ n → Settles S s g (Ok x) s' → Adds S s f (rows_now n) s'
+adds_settled {S} {s} {s' = s'} {f = f} T k q = subst (λ n. Adds S s f (rows_now n) s') k (adds_rows T.faultless T.reduced q)
+
+full_rows : {S : Setting} {s s' : State} {f g : Poly} {d : Refusal} → first_fault S f ≡ None → ReducesTo S s most_terms f (left g) → Settles S s g (Err d) s' → Adds S s f (denied (told d)) s'
+full_rows e R (full m) = add_full e R m
+
+pub adds_full : {S : Setting} {s s' : State} {f g : Poly} {d : Refusal} → Taken S s.rows f g → Settles S s g (Err d) s' → Adds S s f (denied (told d)) s'
+adds_full T q = full_rows T.faultless T.reduced q

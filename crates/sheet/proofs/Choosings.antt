@@ -18,7 +18,7 @@ use Rattle.sheet.specs.declared.queue.Pick.{Pick}
 use Rattle.sheet.specs.Marks.{marked, state_of}
 use Rattle.sheet.specs.Queueing.{capped_raise, no_lead, lead_at, pick_at, is_open, opens, Passed, Waits, in_turn, has, Queued}
 use Rattle.sheet.specs.Rows.{lead_of}
-use Rattle.sheet.proofs.Mapping.{map_at, element}
+use Rattle.reduction.proofs.Mapping.{map_at, element}
 
 some_same : {a b : Bool} → Some a ≡ Some b → a ≡ b
 some_same {a} {b} e = cc

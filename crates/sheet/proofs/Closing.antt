@@ -27,7 +27,7 @@ use Rattle.sheet.specs.Rows.{lead_of}
 use Rattle.sheet.specs.Units.{has_unit}
 use Rattle.sheet.proofs.Whole.{Whole}
 use Rattle.sheet.proofs.Choosings
-use Rattle.sheet.proofs.Mapping.{map_at, element}
+use Rattle.reduction.proofs.Mapping.{map_at, element}
 
 -- a row that leads with 1
 record UnitAt (rows : List Row) : Type 0 where

@@ -11,17 +11,15 @@ use Rattle.polynomial.specs.Polynomial.{Poly, Falling, none, single, more}
 use Rattle.polynomial.specs.Check.{Acceptable, most_terms}
 use Rattle.polynomial.specs.Bytes.{term_bytes, poly_bytes, copy_bytes}
 use Rattle.polynomial.proofs.Codec.{bytes_push}
-use Rattle.involutive.specs.Reduction.{row, Refusal, refuse, Outcome, refused, Reduces}
+use Rattle.involutive.specs.Reduction.{Table, row, Refusal, refuse, refused, Reduces}
 use Rattle.involutive.specs.Sheet.{Setting, State, Closed}
 use Rattle.involutive.specs.Answers.{Copied, Copies, copies, copy_refused, copy_end, copy_stuck, copy_later, copy_row, Selection, FairCopies, copy_denied, copy_short, copy_written, copied_answer, denied, front}
 use Rattle.calls.specs.declared.answer.Copied.{Copied as Counts}
 use Rattle.calls.specs.declared.refusal.Refusal.{Refusal as Denial}
 use Rattle.calls.specs.Told.{told, copied}
-use Rattle.reduction.specs.declared.table.Row.{Row}
-use Rattle.reduction.specs.Table.{terms_of, table_of, SoundTable}
+use Rattle.reduction.specs.declared.refusal.Denied.{Denied}
+use Rattle.reduction.specs.Reducing.{Reduced, told as told_of}
 use Rattle.sheet.specs.Copying.{RowCopied, RowsCopied, Delivered}
-use Rattle.sheet.proofs.Additions.{loaded}
-use Rattle.sheet.proofs.Puttings.{row_is}
 
 -- ---- the bytes of terms
 
@@ -44,49 +42,9 @@ row_bytes f g first rest old b₁ b₂ b₃ p q e₁ e₂ e₃ =
     let d₂ : b₂ ≡ (old ++ A) ++ B = e₂ ∙ ap (λ x. b₁ ++ poly_bytes x) q ∙ ap (λ x. x ++ B) d₁ in
     e₃ ∙ ap (λ x. x ++ (2 ∷ [])) (d₂ ∙ append_assoc old A B ∙ ap (λ x. old ++ x) (sym (bytes_append (take 1 f) g))) ∙ append_assoc old (poly_bytes (take 1 f ++ g)) (2 ∷ [])
 
--- ---- the other terms of a row
-
-falling_tail : {O : Compare} {t : Term} {f : Poly} → Falling O (t ∷ f) → Falling O f
-falling_tail single = none
-falling_tail (more u r) = r
-
-pub others : {F : FieldMeaning} {O : Compare} {n : ℕ} (f : Poly) → Acceptable F O n f → Acceptable F O n (drop 1 f) × (length (drop 1 f) ≤ 39)
-others [] a = (a, omega arith)
-others (t ∷ f) a = (
-  record {
-    written = record {
-      over = λ s m. a.written.over s (Memᴰ.tail m);
-      nonzero = λ s m. a.written.nonzero s (Memᴰ.tail m);
-      falling = falling_tail a.written.falling;
-    };
-    fits = λ s m. a.fits s (Memᴰ.tail m);
-    short = (let l = a.short in omega arith);
-  },
-  (let l = a.short in omega arith),
-)
-
--- row k as it was read, and the terms behind its first one, which may be reduced
-pub record Others (S : Setting) (rows : List Row) (k : ℕ) (whole rest : Poly) : Type 0 where
-  pub whole_is : whole ≡ row (table_of rows) k
-  pub rest_is : rest ≡ drop 1 (row (table_of rows) k)
-  pub acceptable : Acceptable S.field S.order S.variables rest
-  pub short : length rest ≤ 39
-
--- what was loaded of the row is them
-pub others_of : {E : Type 0} {S : Setting} {rows : List Row} {k : ℕ} → SoundTable S rows → Within k (length rows) → (r : Row) → r ≡ get_or rows (k - 1) r →
-    (whole back old new : Poly) (x : Result (Unit {0}) E) → whole ≡ terms_of (get_or rows (k - 1) r) → back ≡ drop 1 whole → MatchResult x (λ _. (length back ≤ most_terms) × (new ≡ back)) (λ _. (most_terms < length back) × (new ≡ old)) → Others S rows k whole new
-others_of {S = S} {rows = rows} {k = k} I w r e whole back old new x p q l =
-    let h : k - 1 < length rows = omega (arith, w) in
-    let o = others (terms_of r) (I (k - 1) r h e).good.acceptable in
-    let a : whole ≡ terms_of r = p ∙ ap terms_of (sym e) in
-    let b : back ≡ drop 1 (terms_of r) = q ∙ ap (drop 1) a in
-    let m : length back ≤ 39 = subst (λ y. length y ≤ 39) (sym b) o.1 in
-    let n : new ≡ drop 1 (terms_of r) = loaded back old new x (omega (arith, m)) l ∙ b in
-    let t = row_is rows k r w e in
-    record { whole_is = a ∙ t; rest_is = n ∙ ap (drop 1) t; acceptable = subst (Acceptable S.field S.order S.variables) (sym n) o.0; short = subst (λ y. length y ≤ 39) (sym n) o.1 }
-
-pub reduced_others : {S : Setting} {rows : List Row} {k : ℕ} {whole rest : Poly} {o : Outcome} → Others S rows k whole rest → Reduces S.field S.order S.division S.variables (table_of rows) 39 rest o → Reduces S.field S.order S.division S.variables (table_of rows) 39 (drop 1 (row (table_of rows) k)) o
-reduced_others {S = S} {rows = rows} {o = o} L R = subst (λ h. Reduces S.field S.order S.division S.variables (table_of rows) 39 h o) L.rest_is R
+-- a copy whose tail is not reduced is denied
+pub row_denied : (S : Setting) (T : Table) (f : Poly) {g : Poly} {d : Denied} (e : Denial) (old new : List ℕ) → told e ≡ told_of d → Reduced S T (most_terms - 1) (drop 1 f) (Err d) g → RowCopied S T f (Err e) old new
+row_denied S T f e old new q R = subst (λ r. Reduces S.field S.order S.division S.variables T (most_terms - 1) (drop 1 f) (refused r)) (sym q) R.comes
 
 -- ---- the copies of the rows before i
 

@@ -5,10 +5,9 @@ mod Choosings
 mod Closing
 mod FairCopying
 mod Logging
-mod Mapping
 mod Marking
 mod Passing
-mod Prolonging
+mod Present
 mod Puttings
 mod Queues
 mod Selections

@@ -6,13 +6,20 @@ use Rattle.polynomial.specs.Polynomial.{Poly}
 use Rattle.polynomial.specs.Check.{most_terms}
 use Rattle.involutive.specs.Reduction.{row, left}
 use Rattle.involutive.specs.Sheet.{Setting, State, Closed}
-use Rattle.involutive.specs.Answers.{written, denied, first_fault, ReducesTo, Remains, remainder_short, remainder_written, Shows, row_short, row_written}
+use Rattle.involutive.specs.Answers.{written, denied, first_fault, ReducesTo, Remains, remainder_faulty, remainder_stuck, remainder_short, remainder_written, Shows, row_short, row_written}
 use Rattle.calls.specs.declared.refusal.Refusal.{Refusal}
 use Rattle.calls.specs.Told.{told, wrote}
+use Rattle.reduction.specs.declared.refusal.Denied.{Denied}
 use Rattle.reduction.specs.declared.table.Row.{Row}
+use Rattle.reduction.specs.Reducing.{ChecksAndReduces, unfit, fit, told as told_of}
 use Rattle.reduction.specs.Table.{terms_of, table_of}
 use Rattle.sheet.specs.Putting.{Put}
-use Rattle.sheet.proofs.Mapping.{map_at}
+use Rattle.reduction.proofs.Mapping.{map_at}
+
+-- a polynomial that is not reduced has no remainder
+pub remains_unreduced : {S : Setting} {s : State} {f g out : Poly} {d : Denied} → Closed S s → ChecksAndReduces S s.rows f (Err d) g → Remains S s f out (denied (told_of d)) out
+remains_unreduced c (unfit e) = remainder_faulty c e
+remains_unreduced c (fit e R) = remainder_stuck c e R.comes
 
 -- what was put is g, which is left of f or row k
 module _ {S : Setting} {s : State} {g h out : Poly} where

@@ -23,7 +23,7 @@ use Rattle.reduction.specs.Table.{terms_of, table_of, SoundTable}
 use Rattle.sheet.specs.Marks.{state_of}
 use Rattle.sheet.specs.Rows.{lead_of}
 use Rattle.sheet.specs.Selecting.{Undivided, placed, Picks, Ascending, ascending_none, ascending_more}
-use Rattle.sheet.proofs.Mapping.{map_at, element}
+use Rattle.reduction.proofs.Mapping.{map_at, element}
 use Rattle.sheet.proofs.Choosings.{leading_wide}
 
 pub lead_at : (rows : List Row) (k : ℕ) (d : Row) → Within k (length rows) → member (map lead_of rows) k ≡ lead_of (get_or rows (k - 1) d)

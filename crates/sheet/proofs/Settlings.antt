@@ -1,54 +1,42 @@
--- What became of a polynomial that was reduced and, where something is left of it, appended.
-use Rattle.std.proofs.Common.{◌≡◌, ℕ, ◌<◌, ◌≤◌, Bool, List, [], ◌∷◌, ◌++◌, map, length, Ok, Err, Result, MatchResult, false, eqb, sym, refl, ap, subst, subst₂, arith}
+-- What becomes of what the rows left of a polynomial.
+use Rattle.std.proofs.Common.{◌≡◌, ℕ, ◌<◌, ◌≤◌, Bool, List, [], ◌∷◌, ◌++◌, map, length, Ok, Err, Result, MatchResult, false, eqb, refl, sym, subst, subst₂, arith}
 use mathlib.Core.List.Memᴰ
 use lib.ListN.{length-map}
-use Rattle.std.specs.Result.{IsErrAnd}
 use Rattle.std.proofs.lemmas.Bool.{eqb-false}
 use Rattle.monomial.specs.Monomial.{Wide, one}
 use Rattle.polynomial.specs.declared.term.Term.{Term}
 use Rattle.polynomial.specs.Polynomial.{Poly, Over, leading, leading_coefficient}
 use Rattle.polynomial.specs.Check.{Acceptable, Fits, most_terms}
 use Rattle.involutive.specs.Value.{scaled}
-use Rattle.involutive.specs.Reduction.{Outcome, left, refused, refuse, Reduces}
 use Rattle.involutive.specs.Sheet.{Setting, Lawful, State, most_rows, with_row}
-use Rattle.involutive.specs.Answers.{ReducesTo}
 use Rattle.involutive.specs.Sound.{Sound, Row as Good}
 use Rattle.involutive.proofs.Soundness
 use Rattle.calls.specs.declared.refusal.Refusal.{Refusal}
 use Rattle.calls.specs.declared.refusal.Refusal.TheVariants.{Full}
-use Rattle.calls.specs.Told.{told}
-use Rattle.reduction.specs.declared.refusal.Denied.{Denied}
-use Rattle.reduction.specs.Reducing.{number, outcome as reduced}
 use Rattle.reduction.specs.declared.table.Row.{Row}
 use Rattle.reduction.specs.Table.{terms_of, table_of, SoundTable}
 use Rattle.sheet.specs.declared.settle.Settled.TheVariants.{Nothing, Appended as SettledAppended}
 use Rattle.sheet.specs.declared.settle.Settled.{Settled}
 use Rattle.sheet.specs.Marks.{marked, state_of}
 use Rattle.sheet.specs.Rows.{lead_of, Appended}
-use Rattle.sheet.specs.Settling.{outcome, Settles, stuck, nothing, full, appends}
+use Rattle.sheet.specs.Settling.{Left, Settles, nothing, full, appends}
 use Rattle.sheet.proofs.Whole.{Whole}
 use Rattle.sheet.proofs.Standing.{stands}
 
--- reducing by the slice of the rows is reducing by the rows
-pub at_rows : {S : Setting} {slice rows : List Row} (xs : List (List Bool)) {h f : Poly} {o : Outcome} → slice ≡ rows → h ≡ f → ReducesTo S (state_of slice xs) most_terms h o → ReducesTo S (state_of rows xs) most_terms f o
-at_rows {S = S} xs {o = o} e l R = subst₂ (λ x y. ReducesTo S (state_of x xs) most_terms y o) e l R
-
--- something is left of h, which was reduced by these rows
-pub record Rest (S : Setting) (rows : List Row) (h g : Poly) : Type 0 where
+-- g, which these rows left of a polynomial, is not zero
+pub record Rest (S : Setting) (rows : List Row) (g : Poly) : Type 0 where
   pub whole : Whole S rows
-  pub acceptable : Acceptable S.field S.order S.variables h
+  pub left : Left S (table_of rows) g
   pub some : 0 < length g
-  pub reduced : Reduces S.field S.order S.division S.variables (table_of rows) most_terms h (left g)
 
-pub rest_of : {S : Setting} {slice rows : List Row} {h g done : Poly} → Whole S rows → Acceptable S.field S.order S.variables h →
-    slice ≡ rows → g ≡ done → Reduces S.field S.order S.division S.variables (table_of slice) most_terms h (left done) → false ≡ eqb (length g) 0 → Rest S rows h g
-rest_of {S = S} {h = h} {g = g} W a e l R t =
+pub rest_of : {S : Setting} {rows : List Row} {g done : Poly} → Whole S rows → Left S (table_of rows) done → g ≡ done → false ≡ eqb (length g) 0 → Rest S rows g
+rest_of {S = S} {rows = rows} {g = g} W L e t =
     let n = eqb-false (length g) 0 (sym t) in
-    record { whole = W; acceptable = a; some = omega (arith, n); reduced = subst₂ (λ x y. Reduces S.field S.order S.division S.variables (table_of x) most_terms h (left y)) e (sym l) R }
+    record { whole = W; left = subst (Left S (table_of rows)) (sym e) L; some = omega (arith, n) }
 
-pub settle_nothing : {S : Setting} {s : State} {h : Poly} (g : Poly) → length g ≡ 0 → ReducesTo S s most_terms h (left g) → Settles S s h (Ok Nothing) s
-settle_nothing [] e R = nothing R
-settle_nothing (t ∷ g) e R = absurd (omega (arith, e))
+pub settle_nothing : {S : Setting} {s : State} (g : Poly) → length g ≡ 0 → Settles S s g (Ok Nothing) s
+settle_nothing [] e = nothing
+settle_nothing (t ∷ g) e = absurd (omega (arith, e))
 
 abbrev made : Setting → Poly → Poly
 made S g = scaled S.field (S.field.inv (leading_coefficient g)) one g
@@ -57,9 +45,9 @@ made S g = scaled S.field (S.field.inv (leading_coefficient g)) one g
 abbrev pub Says : Setting → List Row → List Row → Poly → Result (Unit {0}) Refusal → ℕ → Type 0
 Says S rows new g r len = Over S.field S.variables g → 0 < leading_coefficient g → Fits (made S g) → MatchResult r (λ _. (len < most_rows) × Appended S.division (made S g) (leading g) rows new) (λ d. (d ≡ Full) × (most_rows ≤ len))
 
-module _ {S : Setting} {rows : List Row} {h : Poly} (t : Term) (g : Poly) (R : Rest S rows h (t ∷ g)) where
+module _ {S : Setting} {rows : List Row} (t : Term) (g : Poly) (R : Rest S rows (t ∷ g)) where
   taken : Acceptable S.field S.order S.variables (t ∷ g)
-  taken = (Soundness.reduces_acceptable S R.whole.lawful R.reduced R.acceptable).0
+  taken = (Soundness.reduces_acceptable S R.whole.lawful R.left.reduced R.left.acceptable).0
 
   monic : Good S (made S (t ∷ g))
   monic = Soundness.monic_row S R.whole.lawful t g taken
@@ -68,42 +56,35 @@ module _ {S : Setting} {rows : List Row} {h : Poly} (t : Term) (g : Poly) (R : R
   says : (new : List Row) (r : Result (Unit {0}) Refusal) (len : ℕ) → Says S rows new (t ∷ g) r len → MatchResult r (λ _. (len < most_rows) × Appended S.division (made S (t ∷ g)) (leading (t ∷ g)) rows new) (λ d. (d ≡ Full) × (most_rows ≤ len))
   says new r len E = E taken.written.over (taken.written.nonzero t (Memᴰ.head refl)) monic.acceptable.fits
 
-module _ {S : Setting} {rows new : List Row} {h : Poly} (xs : List (List Bool)) (len : ℕ) (e : len ≡ length rows) where
-  pub settle_full : {g : Poly} (d : Refusal) → Rest S rows h g → len ≤ most_rows → new ≡ rows → Says S rows new g (Err d) len → Settles S (state_of rows xs) h (Err d) (state_of new xs)
+module _ {S : Setting} {rows new : List Row} (xs : List (List Bool)) (len : ℕ) (e : len ≡ length rows) where
+  pub settle_full : {g : Poly} (d : Refusal) → Rest S rows g → len ≤ most_rows → new ≡ rows → Says S rows new g (Err d) len → Settles S (state_of rows xs) g (Err d) (state_of new xs)
   settle_full {g = []} d R m k E = absurd (let p = R.some in omega (arith, p))
   settle_full {g = t ∷ g} d R m k E =
       let b = says t g R new (Err d) len E in
-      subst₂ (λ x r. Settles S (state_of rows xs) h (Err x) (state_of r xs)) (sym b.0) (sym k) (full R.reduced (omega (arith, b.1, m, e, length-map rows terms_of)))
+      subst₂ (λ x r. Settles S (state_of rows xs) (t ∷ g) (Err x) (state_of r xs)) (sym b.0) (sym k) (full (omega (arith, b.1, m, e, length-map rows terms_of)))
 
-  pub settle_appends : {g : Poly} (ys : List (List Bool)) → Rest S rows h g → ((k v : ℕ) → marked ys k v ≡ false) → Says S rows new g (Ok tt) len → Settles S (state_of rows xs) h (Ok SettledAppended) (state_of new ys)
+  pub settle_appends : {g : Poly} (ys : List (List Bool)) → Rest S rows g → ((k v : ℕ) → marked ys k v ≡ false) → Says S rows new g (Ok tt) len → Settles S (state_of rows xs) g (Ok SettledAppended) (state_of new ys)
   settle_appends {g = []} ys R m E = absurd (let p = R.some in omega (arith, p))
   settle_appends {g = t ∷ g} ys R m E =
       let b = says t g R new (Ok tt) len E in
       let q : with_row S (state_of rows xs) (t ∷ g) ≡ state_of new ys = λ i. record { rows = sym b.1.terms i; marks = λ k v. sym (m k v) i } in
-      subst (Settles S (state_of rows xs) h (Ok SettledAppended)) q (appends R.reduced (omega (arith, b.0, e, length-map rows terms_of)))
+      subst (Settles S (state_of rows xs) (t ∷ g) (Ok SettledAppended)) q (appends (omega (arith, b.0, e, length-map rows terms_of)))
 
-pub settle_stands : {S : Setting} {rows new : List Row} {h g : Poly} (len : ℕ) → Rest S rows h g → Says S rows new g (Ok tt) len → SoundTable S new
+pub settle_stands : {S : Setting} {rows new : List Row} {g : Poly} (len : ℕ) → Rest S rows g → Says S rows new g (Ok tt) len → SoundTable S new
 settle_stands {g = []} len R E = absurd (let p = R.some in omega (arith, p))
 settle_stands {S = S} {rows = rows} {new = new} {g = t ∷ g} len R E =
     let b = says t g R new (Ok tt) len E in
     stands S R.whole.lawful.division rows new (made S (t ∷ g)) R.whole.agrees (subst (λ x. Appended S.division (made S (t ∷ g)) x rows new) (sym (Soundness.monic_leads S R.whole.lawful t g (taken t g R))) b.1) (monic t g R)
 
--- a refusal told in the words of the calls
-pub denied_outcome : (x : Result (Unit {0}) Denied) (y : Result (Unit {0}) Refusal) (P : Denied → Refusal → Type 0) → MatchResult x (λ u. y ≡ Ok u) (λ e. IsErrAnd y (P e)) → ((e : Denied) (r : Refusal) → P e r → told r ≡ refuse (number e.reason) e.row) → (g : Poly) → outcome y g ≡ reduced x g
-denied_outcome (Ok u) y P m q g = ap (λ r. outcome r g) m
-denied_outcome (Err e) (Ok u) P m q g = absurd m
-denied_outcome (Err e) (Err r) P m q g = ap refused (q e r m)
-
 -- the leading monomials after a row more, and that the new one is wide
-pub settle_leads : {S : Setting} {rows new : List Row} {h g : Poly} (len : ℕ) → Rest S rows h g → Says S rows new g (Ok tt) len → Wide (leading g) × (map lead_of new ≡ map lead_of rows ++ (leading g ∷ [])) × (len < most_rows)
+pub settle_leads : {S : Setting} {rows new : List Row} {g : Poly} (len : ℕ) → Rest S rows g → Says S rows new g (Ok tt) len → Wide (leading g) × (map lead_of new ≡ map lead_of rows ++ (leading g ∷ [])) × (len < most_rows)
 settle_leads {g = []} len R E = absurd (let p = R.some in omega (arith, p))
 settle_leads {S = S} {rows = rows} {new = new} {g = t ∷ g} len R E =
     let b = says t g R new (Ok tt) len E in
     (((taken t g R).written.over t (Memᴰ.head refl)).1.wide, b.1.leads, b.0)
 
 -- settling keeps a sheet sound
-pub settles_sound : {S : Setting} {s s' : State} {h : Poly} {r : Result Settled Refusal} → Lawful S → Acceptable S.field S.order S.variables h → Settles S s h r s' → Sound S s → Sound S s'
-settles_sound W a (stuck R) I = I
-settles_sound W a (nothing R) I = I
-settles_sound W a (full R m) I = I
-settles_sound {S = S} W a (appends R l) I = let w = Soundness.reduces_acceptable S W R a in Soundness.new_row S W I l w.0 w.1
+pub settles_sound : {S : Setting} {s s' : State} {g : Poly} {r : Result Settled Refusal} → Lawful S → Left S s.rows g → Settles S s g r s' → Sound S s → Sound S s'
+settles_sound W L nothing I = I
+settles_sound W L (full m) I = I
+settles_sound {S = S} W L (appends l) I = let w = Soundness.reduces_acceptable S W L.reduced L.acceptable in Soundness.new_row S W I l w.0 w.1

@@ -11,7 +11,7 @@ use Rattle.involutive.specs.Sound.{Row as Good}
 use Rattle.reduction.specs.declared.table.Row.{Row}
 use Rattle.reduction.specs.Table.{terms_of, table_of, SoundTable}
 use Rattle.sheet.specs.Rows.{lead_of, flags_of, Appended}
-use Rattle.sheet.proofs.Mapping.{map_at, element}
+use Rattle.reduction.proofs.Mapping.{map_at, element}
 
 -- the leading monomials that stand beside the rows are those of the rows
 leads_are : (rows : List Row) → ((i : ℕ) (r : Row) → i < length rows → r ≡ get_or rows i r → lead_of r ≡ leading (terms_of r)) → map lead_of rows ≡ leaders (table_of rows)

@@ -1,107 +1,73 @@
--- What a step answers, from what became of the prolongation of its pair.
-use Rattle.std.proofs.Common.{◌≡◌, ℕ, ◌-◌, ◌<◌, ◌≤◌, arith, [], length, Bool, ◌&&◌, ◌||◌, eqb, List, Ok, Err, MatchResult, Result, sym, ap, subst, subst₂}
+-- What a step answers, from what reducing the prolongation of its pair answered and what became of what was left.
+use Rattle.std.proofs.Common.{◌≡◌, ℕ, ◌-◌, ◌<◌, ◌≤◌, arith, length, Bool, ◌&&◌, ◌||◌, eqb, List, Ok, Err, Some, None, Option, MatchOption, Result, sym, subst, subst₂}
 use lib.ListN.{length-map}
-use Rattle.std.specs.Result.{is_err}
-use Rattle.std.proofs.lemmas.Bool.{false≢true}
 use Rattle.monomial.specs.Monomial.{variable}
+use Rattle.monomial.specs.Division.{Within}
 use Rattle.polynomial.specs.Polynomial.{Poly}
-use Rattle.polynomial.specs.Check.{Acceptable, Fits, most_terms}
-use Rattle.involutive.specs.Reduction.{refuse, row}
-use Rattle.involutive.specs.Value.{scaled}
-use Rattle.involutive.specs.Sheet.{Setting, State, Chosen, with_mark}
-use Rattle.involutive.specs.Answers.{Steps, denied, marked_answer, appended_answer, step_wide, step_stuck, step_mark, step_full, step_row}
-use Rattle.involutive.specs.Sound.{Row as Good}
-use Rattle.involutive.proofs.Monomials
+use Rattle.polynomial.specs.Check.{Fits, most_terms}
+use Rattle.involutive.specs.Reduction.{left, row}
+use Rattle.involutive.specs.Sheet.{Setting, State, Chosen, prolonged, with_mark}
+use Rattle.involutive.specs.Answers.{ReducesTo, Steps, denied, marked_answer, appended_answer, step_wide, step_stuck, step_mark, step_full, step_row}
 use Rattle.involutive.proofs.Typing.{ground_of}
-use Rattle.involutive.proofs.Values
-use Rattle.involutive.proofs.WrittenLists
 use Rattle.calls.specs.declared.refusal.Refusal.{Refusal}
 use Rattle.calls.specs.Told.{told}
+use Rattle.reduction.specs.declared.refusal.Denied.{Denied}
 use Rattle.reduction.specs.declared.table.Row.{Row}
 use Rattle.reduction.specs.Table.{terms_of, table_of}
+use Rattle.reduction.specs.Reducing.{ProlongsAndReduces, too_wide, small, told as told_of}
+use Rattle.reduction.proofs.Prolonging.{acceptable}
 use Rattle.sheet.specs.declared.settle.Settled.TheVariants.{Nothing, Appended}
 use Rattle.sheet.specs.declared.settle.Settled.{Settled}
 use Rattle.sheet.specs.Marks.{marked, state_of}
-use Rattle.sheet.specs.Settling.{Settles, stuck, nothing, full, appends}
+use Rattle.sheet.specs.Settling.{Left, Settles, nothing, full, appends}
 use Rattle.sheet.proofs.Whole.{Whole}
-use Rattle.sheet.proofs.Mapping.{map_at, element}
 
--- the row of a pair times its variable, of these rows
-abbrev line : Setting → List Row → ℕ → ℕ → Poly
-line S rows k v = scaled S.field 1 (variable v) (row (table_of rows) k)
+-- reducing by the slice of the rows is reducing by the rows
+pub by_rows : {S : Setting} {slice rows : List Row} {k v : ℕ} {g : Poly} {r : Result (Unit {0}) Denied} → slice ≡ rows → ProlongsAndReduces S (table_of slice) k v r g → ProlongsAndReduces S (table_of rows) k v r g
+by_rows {S} {k = k} {v = v} {g = g} {r = r} e = subst (λ x. ProlongsAndReduces S (table_of x) k v r g) e
 
--- what prolonging by these rows says of a pair
-abbrev pub Prolongs : {E : Type 0} → Setting → List Row → ℕ → ℕ → Result (Unit {0}) E → Poly → Type 0
-Prolongs S rows k v r p = MatchResult r (λ _. Fits (line S rows k v) × (p ≡ line S rows k v)) (λ _. Fits (line S rows k v) → ⊥)
+-- a prolongation that is not reduced is denied
+pub steps_unreduced : {S : Setting} {s : State} {k v : ℕ} {g : Poly} {d : Denied} → Chosen S s k v → ProlongsAndReduces S s.rows k v (Err d) g → Steps S s (denied (told_of d)) s
+steps_unreduced C (too_wide w) = step_wide C w
+steps_unreduced C (small h R) = step_stuck C h R.comes
 
--- prolonging by the slice of the rows is prolonging by the rows
-at_rows : {E : Type 0} (S : Setting) {slice rows : List Row} (k v : ℕ) (r : Result (Unit {0}) E) (p : Poly) → slice ≡ rows → Prolongs S slice k v r p → Prolongs S rows k v r p
-at_rows S k v r p e q = subst (λ x. Prolongs S x k v r p) e q
+-- what is left of one that is reduced
+pub record Taken (S : Setting) (s : State) (k v : ℕ) (g : Poly) : Type 0 where
+  pub chosen : Chosen S s k v
+  pub fits : Fits (prolonged S s k v)
+  pub reduced : ReducesTo S s most_terms (prolonged S s k v) (left g)
 
--- a pair that is chosen, and p, its row times its variable
-pub record Prolonged (S : Setting) (rows : List Row) (xs : List (List Bool)) (k v : ℕ) (p : Poly) : Type 0 where
-  pub whole : Whole S rows
-  pub chosen : Chosen S (state_of rows xs) k v
-  pub fits : Fits (line S rows k v)
-  pub is : p ≡ line S rows k v
+pub taken : {S : Setting} {s : State} {k v : ℕ} {g : Poly} → Chosen S s k v → ProlongsAndReduces S s.rows k v (Ok tt) g → Taken S s k v g
+taken C (small h R) = record { chosen = C; fits = h; reduced = R.comes }
 
-pub prolonged_of : {E : Type 0} {S : Setting} {slice rows : List Row} {xs : List (List Bool)} {k v : ℕ} → Whole S rows → Chosen S (state_of rows xs) k v →
-    (r : Result (Unit {0}) E) (p : Poly) → slice ≡ rows → Prolongs S slice k v r p → r ≡ Ok tt → Prolonged S rows xs k v p
-prolonged_of {S = S} {rows = rows} {xs = xs} {k = k} {v = v} W C r p e q o = go r (at_rows S k v r p e q) o
-  where
-    go : {E : Type 0} (r : Result (Unit {0}) E) → Prolongs S rows k v r p → r ≡ Ok tt → Prolonged S rows xs k v p
-    go (Ok u) m o = record { whole = W; chosen = C; fits = m.0; is = m.1 }
-    go (Err d) m o = absurd (false≢true (sym (ap is_err o)))
+-- the pair that is chosen is of these rows and variables
+pub there : (S : Setting) (rows : List Row) (xs : List (List Bool)) {k v : ℕ} → Chosen S (state_of rows xs) k v → Within k (length rows) × Within v S.variables
+there S rows xs {k} C = ((C.pair.at_row.0, subst (λ n. k ≤ n) (length-map rows terms_of) C.pair.at_row.1), C.pair.at_variable)
 
-pub treat_wide : {E : Type 0} {S : Setting} {slice rows : List Row} (xs : List (List Bool)) {k v : ℕ} → Chosen S (state_of rows xs) k v →
-    (r : Result (Unit {0}) E) (p : Poly) → slice ≡ rows → Prolongs S slice k v r p → (d : E) → r ≡ Err d → Steps S (state_of rows xs) (denied (refuse 9 k)) (state_of rows xs)
-treat_wide {S = S} {rows = rows} xs {k = k} {v = v} C r p e q d o = step_wide C (go r (at_rows S k v r p e q) d o)
-  where
-    go : {E : Type 0} (r : Result (Unit {0}) E) → Prolongs S rows k v r p → (d : E) → r ≡ Err d → Fits (line S rows k v) → ⊥
-    go (Ok u) m d o = absurd (false≢true (ap is_err o))
-    go (Err x) m d o = m
+pub left_of : {S : Setting} {rows : List Row} (xs : List (List Bool)) {k v : ℕ} {g : Poly} → Whole S rows → Taken S (state_of rows xs) k v g → Left S (table_of rows) g
+left_of {S} {rows} xs {k} {v} W T =
+    let w = there S rows xs T.chosen in
+    record { whole = _; acceptable = acceptable (ground_of S W.lawful) S.division rows W.agrees k v w.0 w.1 T.fits; reduced = T.reduced }
 
-module _ {S : Setting} {rows : List Row} {xs : List (List Bool)} {k v : ℕ} {p : Poly} (P : Prolonged S rows xs k v p) where
-  abbrev s : State
-  s = state_of rows xs
+-- ---- from what becomes of what is left
 
-  good : Good S (row (table_of rows) k)
-  good =
-      let w = P.chosen.pair.at_row in
-      let m : k - 1 < length rows = omega (arith, w, length-map rows terms_of) in
-      let x = element rows (k - 1) m in
-      subst (Good S) (sym (map_at terms_of rows (k - 1) x.0 [] m x.1)) (P.whole.agrees (k - 1) x.0 m x.1).good
+denied_steps : {S : Setting} {s s' : State} {k v : ℕ} {g : Poly} {d : Refusal} → Chosen S s k v → Fits (prolonged S s k v) → ReducesTo S s most_terms (prolonged S s k v) (left g) → Settles S s g (Err d) s' → Steps S s (denied (told d)) s'
+denied_steps C h R (full m) = step_full C h R m
 
-  line_acceptable : Acceptable S.field S.order S.variables (line S rows k v)
-  line_acceptable = record {
-    written = WrittenLists.written_scaled (ground_of S P.whole.lawful) 1 (variable v) (omega arith) P.whole.lawful.field.differ (Monomials.in_variable P.chosen.pair.at_variable) (row s.rows k) good.acceptable.written;
-    fits = P.fits;
-    short = subst (λ x. x ≤ most_terms) (sym (Values.length_scaled S.field 1 (variable v) (row s.rows k))) good.acceptable.short;
-  }
+marked_steps : {S : Setting} {s s' : State} {k v : ℕ} {g : Poly} → Chosen S s k v → Fits (prolonged S s k v) → ReducesTo S s most_terms (prolonged S s k v) (left g) → Settles S s g (Ok Nothing) s' → Steps S s marked_answer (with_mark s' k v)
+marked_steps C h R nothing = step_mark C h R
 
-  -- it can be reduced
-  pub acceptable : Acceptable S.field S.order S.variables p
-  acceptable = subst (Acceptable S.field S.order S.variables) (sym P.is) line_acceptable
+appended_steps : {S : Setting} {s s' : State} {k v : ℕ} {g : Poly} → Chosen S s k v → Fits (prolonged S s k v) → ReducesTo S s most_terms (prolonged S s k v) (left g) → Settles S s g (Ok Appended) s' → Steps S s appended_answer s'
+appended_steps C h R (appends l) = step_row C h R l
 
-  -- ---- from what settling it comes to
+module _ {S : Setting} {s : State} {k v : ℕ} {g : Poly} (T : Taken S s k v g) where
+  pub treat_denied : (d : Refusal) (s' : State) → Settles S s g (Err d) s' → Steps S s (denied (told d)) s'
+  treat_denied d s' q = denied_steps T.chosen T.fits T.reduced q
 
-  denied_steps : {d : Refusal} {s' : State} → Settles S s (line S rows k v) (Err d) s' → Steps S s (denied (told d)) s'
-  denied_steps (stuck R) = step_stuck P.chosen P.fits R
-  denied_steps (full R m) = step_full P.chosen P.fits R m
+  pub treat_appended : (x : Settled) (s' : State) → x ≡ Appended → Settles S s g (Ok x) s' → Steps S s appended_answer s'
+  treat_appended x s' e q = appended_steps T.chosen T.fits T.reduced (subst (λ y. Settles S s g (Ok y) s') e q)
 
-  marked_steps : {s' : State} → Settles S s (line S rows k v) (Ok Nothing) s' → Steps S s marked_answer (with_mark s' k v)
-  marked_steps (nothing R) = step_mark P.chosen P.fits R
-
-  appended_steps : {s' : State} → Settles S s (line S rows k v) (Ok Appended) s' → Steps S s appended_answer s'
-  appended_steps (appends R l) = step_row P.chosen P.fits R l
-
-  pub treat_denied : (d : Refusal) (s' : State) → Settles S s p (Err d) s' → Steps S s (denied (told d)) s'
-  treat_denied d s' q = denied_steps (subst (λ x. Settles S s x (Err d) s') P.is q)
-
-  pub treat_appended : (x : Settled) (s' : State) → x ≡ Appended → Settles S s p (Ok x) s' → Steps S s appended_answer s'
-  treat_appended x s' e q = appended_steps (subst₂ (λ f y. Settles S s f (Ok y) s') P.is e q)
-
-  pub treat_marked : (x : Settled) (rows' : List Row) (xs' ys : List (List Bool)) → x ≡ Nothing → Settles S s p (Ok x) (state_of rows' xs') → ((j u : ℕ) → marked ys j u ≡ ((eqb j k && eqb u v) || marked xs' j u)) → Steps S s marked_answer (state_of rows' ys)
+  pub treat_marked : (x : Settled) (rows' : List Row) (xs' ys : List (List Bool)) → x ≡ Nothing → Settles S s g (Ok x) (state_of rows' xs') → ((j u : ℕ) → marked ys j u ≡ ((eqb j k && eqb u v) || marked xs' j u)) → Steps S s marked_answer (state_of rows' ys)
   treat_marked x rows' xs' ys e q m =
       let w : with_mark (state_of rows' xs') k v ≡ state_of rows' ys = λ i. record { rows = table_of rows'; marks = λ j u. sym (m j u) i } in
-      subst (Steps S s marked_answer) w (marked_steps (subst₂ (λ f y. Settles S s f (Ok y) (state_of rows' xs')) P.is e q))
+      subst (Steps S s marked_answer) w (marked_steps T.chosen T.fits T.reduced (subst (λ y. Settles S s g (Ok y) (state_of rows' xs')) e q))

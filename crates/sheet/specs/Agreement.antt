@@ -1,26 +1,10 @@
--- That the rows of a table agree with what is kept beside them, and that the queue has their pairs in order, are facts of a
--- sheet's type, which holds one proof of each: any two proofs of it are equal.
-use Rattle.std.specs.Prelude.{◌≡◌, ℕ, List, refl}
-use Rattle.std.proofs.Common.{ap₂}
+-- That the queue has the rows' pairs in order is a fact of a sheet's type, which holds one proof of it: any two proofs of it are
+-- equal.
+use Rattle.std.specs.Prelude.{ℕ, List}
 use Rattle.std.proofs.Props.{props}
-use Rattle.monomial.specs.Order.{Compare, Under}
-use Rattle.polynomial.specs.Polynomial.{Poly, exponents, Falling, none, single, more}
-use Rattle.involutive.specs.Sheet.{Setting}
-use Rattle.reduction.specs.declared.table.Row.{Row}
-use Rattle.reduction.specs.Table.{SoundTable}
+use Rattle.monomial.specs.Order.{Compare}
 use Rattle.sheet.specs.declared.queue.Pick.{Pick}
 use Rattle.sheet.specs.Queueing.{Queued}
-
-under_prop : (O : Compare) (u m : _) → IsProp (Under O u m)
-under_prop O u m = hlevel props
-
-falling_prop : {O : Compare} {f : Poly} (x y : Falling O f) → x ≡ y
-falling_prop none none = refl
-falling_prop single single = refl
-falling_prop {O = O} (more {t = t} {s = s} u x) (more w y) = ap₂ (λ a b. more a b) (under_prop O (exponents s) (exponents t) u w) (falling_prop x y)
-
-pub agreement_prop : (S : Setting) (rows : List Row) → IsProp (SoundTable S rows)
-agreement_prop S rows = hlevel (props, falling_prop)
 
 pub queued_prop : (O : Compare) (n : ℕ) (leads : List (List ℕ)) (picks : List Pick) → IsProp (Queued O n leads picks)
 queued_prop O n leads picks = hlevel props

@@ -1,28 +1,26 @@
--- Reducing a polynomial by the rows, and appending what is left of it.
+-- What the rows leave of a polynomial, and appending it.
 use Rattle.std.specs.Prelude.{◌≡◌, ◌<◌, [], ◌∷◌, length, Ok, Err, Result}
 use Rattle.polynomial.specs.declared.term.Term.{Term}
 use Rattle.polynomial.specs.Polynomial.{Poly}
-use Rattle.polynomial.specs.Check.{most_terms}
-use Rattle.involutive.specs.Reduction.{Outcome, left, refused}
+use Rattle.polynomial.specs.Check.{Acceptable, most_terms}
+use Rattle.involutive.specs.Reduction.{Table, left, Reduces}
 use Rattle.involutive.specs.Sheet.{Setting, State, most_rows, with_row}
-use Rattle.involutive.specs.Answers.{ReducesTo}
 use Rattle.calls.specs.declared.refusal.Refusal.{Refusal}
 use Rattle.calls.specs.declared.refusal.Refusal.TheVariants.{Full}
-use Rattle.calls.specs.Told.{told}
 use Rattle.sheet.specs.declared.settle.Settled.{Settled}
 use Rattle.sheet.specs.declared.settle.Settled.TheVariants.{Nothing, Appended}
 
--- what is left of a polynomial, or why reducing is refused
-abbrev pub outcome : Result (Unit {0}) Refusal → Poly → Outcome
-outcome (Ok u) g = left g
-outcome (Err d) g = refused (told d)
+-- g is what the rows T leave of some polynomial
+pub record Left (S : Setting) (T : Table) (g : Poly) : Type 0 where
+  pub whole : Poly
+  pub acceptable : Acceptable S.field S.order S.variables whole
+  pub reduced : Reduces S.field S.order S.division S.variables T most_terms whole (left g)
 
--- `Settles S s h r s'`: what becomes of h on a sheet with state s, and the state after it
-pub data Settles (S : Setting) (s : State) (h : Poly) : Result Settled Refusal → State → Type 0 where
-  stuck : {d : Refusal} → ReducesTo S s most_terms h (refused (told d)) → Settles S s h (Err d) s
-  nothing : ReducesTo S s most_terms h (left []) → Settles S s h (Ok Nothing) s
-  full : {t : Term} {g : Poly} → ReducesTo S s most_terms h (left (t ∷ g)) → length s.rows ≡ most_rows → Settles S s h (Err Full) s
-  appends : {t : Term} {g : Poly} → ReducesTo S s most_terms h (left (t ∷ g)) → length s.rows < most_rows → Settles S s h (Ok Appended) (with_row S s (t ∷ g))
+-- `Settles S s g r s'`: what becomes of g, which the rows left, on a sheet with state s, and the state after it
+pub data Settles (S : Setting) (s : State) : Poly → Result Settled Refusal → State → Type 0 where
+  nothing : Settles S s [] (Ok Nothing) s
+  full : {t : Term} {g : Poly} → length s.rows ≡ most_rows → Settles S s (t ∷ g) (Err Full) s
+  appends : {t : Term} {g : Poly} → length s.rows < most_rows → Settles S s (t ∷ g) (Ok Appended) (with_row S s (t ∷ g))
 
 -- this holds where no row was appended
 abbrev pub UnlessAppended : Result Settled Refusal → Type 0 → Type 0

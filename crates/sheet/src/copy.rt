@@ -13,7 +13,8 @@ ghost use Rattle.sheet.specs.Rows.{lead_of};
 ghost use Rattle.sheet.specs.Copying.{row_room, copy_room, RowCopied, RowsCopied, Delivered};
 
 use crate::put::put;
-use crate::rows::Rows;
+use crate::select::select;
+use crate::settle::refusal_of;
 use calls::answer::Copied;
 use calls::refusal::Refusal;
 use field::Field;
@@ -23,6 +24,7 @@ use polynomial::bytes::{TERM_BYTES, term_bytes};
 use polynomial::check::{MOST_ROWS, MOST_TERMS};
 use polynomial::term::Term;
 use reduction::reduce::Work;
+use reduction::rows::Rows;
 use std::alloc::{AllocError, Global};
 
 // The byte that closes each row of a copy.
@@ -91,55 +93,56 @@ fn write_copy(rows: usize, bytes: &[u8], out: &mut [u8]) -> Result<Copied, Refus
     Ok(Copied { rows, bytes })
 }
 
-impl<F: Field, O: Order, D: Division> Rows<'_, F, O, D> {
-    // The copy of row k: its leading term and what reducing leaves of the others, with room for 39 terms, so that the
-    // copy has at most 40.
-    fn copy_row(&self, k: usize, work: &mut Work, bytes: &mut CopyBytes) -> Result<(), Refusal>
-        requires within { Within k (length self.now.rows.now) }
-        requires room { vec_len bytes.old.written + row_room ≤ copy_room }
-        ensures len { vec_len bytes.new.written ≤ vec_len bytes.old.written + row_room }
-        ensures copy { RowCopied (setting (F.Field.meaning self.now.ring.now.field) (O.Order.meaning self.now.ring.now.order) (D.Division.meaning self.now.division.now) self.now.ring.now.variables) (table_of self.now.rows.now) (line (table_of self.now.rows.now) k) result bytes.old.written.items bytes.new.written.items }
-    {
-        let (first, others) = self.rows[k - 1].terms.as_slice().split_at(1);
-        // A row has at most 40 terms, so there is room.
-        let _ = work.load(others);
-        self.reduce(MOST_TERMS - 1, work)?;
-        bytes.push_terms(first);
-        bytes.push_terms(work.done.terms.as_slice());
-        bytes.written.push_reserved(END_OF_ROW);
-        Ok(())
-    }
+// The copy of row k: its leading term and what reducing leaves of the others, with room for 39 terms, so that the
+// copy has at most 40.
+fn copy_row<F: Field, O: Order, D: Division>(
+    rows: &Rows<F, O, D>,
+    k: usize,
+    work: &mut Work,
+    bytes: &mut CopyBytes,
+) -> Result<(), Refusal>
+    requires within { Within k (length rows.now.rows.now) }
+    requires room { vec_len bytes.old.written + row_room ≤ copy_room }
+    ensures len { vec_len bytes.new.written ≤ vec_len bytes.old.written + row_room }
+    ensures copy { RowCopied (setting (F.Field.meaning rows.now.ring.now.field) (O.Order.meaning rows.now.ring.now.order) (D.Division.meaning rows.now.division.now) rows.now.ring.now.variables) (table_of rows.now.rows.now) (line (table_of rows.now.rows.now) k) result bytes.old.written.items bytes.new.written.items }
+{
+    // The row is one of these, so there is such a row.
+    rows.reduce_tail(k, work).unwrap().map_err(refusal_of)?;
+    bytes.push_terms(&rows.rows[k - 1].terms.as_slice()[..1]);
+    bytes.push_terms(work.done.terms.as_slice());
+    bytes.written.push_reserved(END_OF_ROW);
+    Ok(())
+}
 
-    // The copies of the listed rows, which count from 1, up to the first that is denied.
-    fn copy_rows(
-        &self,
-        list: &[usize],
-        work: &mut Work,
-        bytes: &mut CopyBytes,
-    ) -> Result<(), Refusal>
-        requires { (length list.now ≤ most_rows) × ((k : ℕ) → Memᴰ k list.now → Within k (length self.now.rows.now)) }
-        ensures { (xs : List (List Bool)) → RowsCopied (setting (F.Field.meaning self.now.ring.now.field) (O.Order.meaning self.now.ring.now.order) (D.Division.meaning self.now.division.now) self.now.ring.now.variables) (state_of self.now.rows.now xs) list.now result bytes.new.written.items }
-    {
-        bytes.written.clear();
-        for k in list {
-            self.copy_row(*k, work, bytes)?;
-        }
-        Ok(())
+// The copies of the listed rows, which count from 1, up to the first that is denied.
+fn copy_rows<F: Field, O: Order, D: Division>(
+    rows: &Rows<F, O, D>,
+    list: &[usize],
+    work: &mut Work,
+    bytes: &mut CopyBytes,
+) -> Result<(), Refusal>
+    requires { (length list.now ≤ most_rows) × ((k : ℕ) → Memᴰ k list.now → Within k (length rows.now.rows.now)) }
+    ensures { (xs : List (List Bool)) → RowsCopied (setting (F.Field.meaning rows.now.ring.now.field) (O.Order.meaning rows.now.ring.now.order) (D.Division.meaning rows.now.division.now) rows.now.ring.now.variables) (state_of rows.now.rows.now xs) list.now result bytes.new.written.items }
+{
+    bytes.written.clear();
+    for k in list {
+        copy_row(rows, *k, work, bytes)?;
     }
+    Ok(())
+}
 
-    // The fair copy of a closed sheet with these rows, into the lent bytes: how many rows and bytes it has.
-    pub(crate) fn write_fair_copy(
-        &self,
-        work: &mut Work,
-        buffer: &mut CopyBuffer,
-        out: &mut [u8],
-    ) -> Result<Copied, Refusal>
-        requires { length self.now.rows.now ≤ most_rows }
-        ensures within { MatchResult result (λ c. c.bytes ≤ length out.old) (λ _. out.new ≡ out.old) }
-        ensures answer { let S = setting (F.Field.meaning self.now.ring.now.field) (O.Order.meaning self.now.ring.now.order) (D.Division.meaning self.now.division.now) self.now.ring.now.variables in (xs : List (List Bool)) → Distinct (map lead_of self.now.rows.now) → Closed S (state_of self.now.rows.now xs) → FairCopies S (state_of self.now.rows.now xs) out.old (copied result) out.new }
-    {
-        self.select(&mut buffer.list);
-        self.copy_rows(buffer.list.as_slice(), work, &mut buffer.bytes)?;
-        write_copy(buffer.list.len(), buffer.bytes.written.as_slice(), out)
-    }
+// The fair copy of a closed sheet with these rows, into the lent bytes: how many rows and bytes it has.
+pub(crate) fn write_fair_copy<F: Field, O: Order, D: Division>(
+    rows: &Rows<F, O, D>,
+    work: &mut Work,
+    buffer: &mut CopyBuffer,
+    out: &mut [u8],
+) -> Result<Copied, Refusal>
+    requires { length rows.now.rows.now ≤ most_rows }
+    ensures within { MatchResult result (λ c. c.bytes ≤ length out.old) (λ _. out.new ≡ out.old) }
+    ensures answer { let S = setting (F.Field.meaning rows.now.ring.now.field) (O.Order.meaning rows.now.ring.now.order) (D.Division.meaning rows.now.division.now) rows.now.ring.now.variables in (xs : List (List Bool)) → Distinct (map lead_of rows.now.rows.now) → Closed S (state_of rows.now.rows.now xs) → FairCopies S (state_of rows.now.rows.now xs) out.old (copied result) out.new }
+{
+    select(&rows.ring.order, rows.rows, &mut buffer.list);
+    copy_rows(rows, buffer.list.as_slice(), work, &mut buffer.bytes)?;
+    write_copy(buffer.list.len(), buffer.bytes.written.as_slice(), out)
 }

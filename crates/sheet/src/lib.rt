@@ -6,15 +6,13 @@
 // six      the six calls
 //
 // table    the rows, and the memory for those to come
-// rows     the rows, lent with what they agree with
 // flags    which variables are multiplicative for each row
 // marks    which pairs of a row and a variable are marked
 // pair     a row and a variable
 // queue    the pairs in the order in which steps take them
 // choose   the pair that a step takes
-// prolong  a row times a variable
 // append   a row more
-// settle   reducing by the rows and appending what is left
+// settle   what the rows leave of a polynomial becomes a row
 // treat    what a step does with its pair
 // put      terms or bytes to the front of what was lent
 // select   the rows of a fair copy
@@ -29,10 +27,8 @@ mod flags;
 mod making;
 mod marks;
 mod pair;
-mod prolong;
 mod put;
 mod queue;
-mod rows;
 mod select;
 mod settle;
 pub mod sheet;

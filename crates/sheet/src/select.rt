@@ -11,67 +11,59 @@ ghost use Rattle.involutive.specs.Sheet.{most_rows};
 ghost use Rattle.sheet.specs.Rows.{lead_of};
 ghost use Rattle.sheet.specs.Selecting.{Undivided, placed, Picks, Ascending};
 
-use crate::rows::Rows;
-use field::Field;
-use monomial::division::Division;
 use monomial::order::Order;
+use reduction::table::Row;
 use std::cmp::Ordering;
 
-impl<F: Field, O: Order, D: Division> Rows<'_, F, O, D> {
-    // Whether no other row's leading monomial divides that of row k.
-    fn is_minimal(&self, k: usize) -> bool
-        requires { Within k (length self.now.rows.now) }
-        ensures { Decides result (Undivided (map lead_of self.now.rows.now) k) }
-    {
-        let own = self.rows[k - 1].lead.monomial;
-        self.rows
-            .iter()
-            .enumerate()
-            .all(|(i, row)| i == k - 1 || !row.lead.monomial.divides(&own))
-    }
+// Whether no other row's leading monomial divides that of row k.
+fn is_minimal(rows: &[Row], k: usize) -> bool
+    requires { Within k (length rows.now) }
+    ensures { Decides result (Undivided (map lead_of rows.now) k) }
+{
+    let own = rows[k - 1].lead.monomial;
+    rows.iter()
+        .enumerate()
+        .all(|(i, row)| i == k - 1 || !row.lead.monomial.divides(&own))
+}
 
-    // How the leading monomials of rows j and k compare.
-    fn compare_leads(&self, j: usize, k: usize) -> Ordering
-        requires { Within j (length self.now.rows.now) × Within k (length self.now.rows.now) }
-        ensures { result ≡ O.Order.meaning self.now.ring.now.order (member (map lead_of self.now.rows.now) j) (member (map lead_of self.now.rows.now) k) }
-    {
-        self.ring.order.compare(
-            &self.rows[j - 1].lead.monomial,
-            &self.rows[k - 1].lead.monomial,
-        )
-    }
+// How the leading monomials of rows j and k compare.
+fn compare_leads<O: Order>(order: &O, rows: &[Row], j: usize, k: usize) -> Ordering
+    requires { Within j (length rows.now) × Within k (length rows.now) }
+    ensures { result ≡ O.Order.meaning order.now (member (map lead_of rows.now) j) (member (map lead_of rows.now) k) }
+{
+    order.compare(&rows[j - 1].lead.monomial, &rows[k - 1].lead.monomial)
+}
 
-    // Where row k goes in the list: before the first row that does not stand below it. By a loop: a closure for `position` would
-    // have to show of each number in the list that it is a row's, and did not.
-    fn place_of(&self, list: &[usize], k: usize) -> usize
-        requires { ((j : ℕ) → Memᴰ j list.now → Within j (length self.now.rows.now)) × Within k (length self.now.rows.now) }
-        ensures range { result ≤ length list.now }
-        ensures place { insert list.now result k ≡ placed (O.Order.meaning self.now.ring.now.order) (map lead_of self.now.rows.now) k list.now }
-    {
-        for (i, j) in list.iter().enumerate() {
-            if !self.compare_leads(*j, k).is_lt() {
-                return i;
-            }
+// Where row k goes in the list: before the first row that does not stand below it. By a loop: a closure for `position` would
+// have to show of each number in the list that it is a row's, and did not.
+fn place_of<O: Order>(order: &O, rows: &[Row], list: &[usize], k: usize) -> usize
+    requires { ((j : ℕ) → Memᴰ j list.now → Within j (length rows.now)) × Within k (length rows.now) }
+    ensures range { result ≤ length list.now }
+    ensures place { insert list.now result k ≡ placed (O.Order.meaning order.now) (map lead_of rows.now) k list.now }
+{
+    for (i, j) in list.iter().enumerate() {
+        if !compare_leads(order, rows, *j, k).is_lt() {
+            return i;
         }
-        list.len()
     }
+    list.len()
+}
 
-    // The numbers of the rows to copy. The loop is over the numbers, since of a row nothing else is asked. It counts from 0:
-    // `1..=n` is left from within its last round, and what a round does would have to be shown twice.
-    pub(crate) fn select(&self, list: &mut Vec<usize>)
-        requires { (length self.now.rows.now ≤ most_rows) × (most_rows ≤ vec_capacity list.old) }
-        ensures room { most_rows ≤ vec_capacity list.new }
-        ensures few { vec_len list.new ≤ length self.now.rows.now }
-        ensures picks { Picks (map lead_of self.now.rows.now) (length self.now.rows.now) list.new.items }
-        ensures rises { Distinct (map lead_of self.now.rows.now) → Ascending (O.Order.meaning self.now.ring.now.order) (map lead_of self.now.rows.now) list.new.items }
-    {
-        list.clear();
-        for i in 0..self.rows.len() {
-            let k = i + 1;
-            if self.is_minimal(k) {
-                let at = self.place_of(list.as_slice(), k);
-                let _ = list.insert(at, k);
-            }
+// The numbers of the rows to copy. The loop is over the numbers, since of a row nothing else is asked. It counts from 0:
+// `1..=n` is left from within its last round, and what a round does would have to be shown twice.
+pub(crate) fn select<O: Order>(order: &O, rows: &[Row], list: &mut Vec<usize>)
+    requires { (length rows.now ≤ most_rows) × (most_rows ≤ vec_capacity list.old) }
+    ensures room { most_rows ≤ vec_capacity list.new }
+    ensures few { vec_len list.new ≤ length rows.now }
+    ensures picks { Picks (map lead_of rows.now) (length rows.now) list.new.items }
+    ensures rises { Distinct (map lead_of rows.now) → Ascending (O.Order.meaning order.now) (map lead_of rows.now) list.new.items }
+{
+    list.clear();
+    for i in 0..rows.len() {
+        let k = i + 1;
+        if is_minimal(rows, k) {
+            let at = place_of(order, rows, list.as_slice(), k);
+            let _ = list.insert(at, k);
         }
     }
 }

@@ -1,13 +1,11 @@
 // A sheet: what it is made of, what it holds, and the memory that its calls use.
-ghost use Rattle.std.specs.Prelude.{◌≡◌, ◌≤◌, map, Some, None, OnErr, MatchResult};
-ghost use Rattle.polynomial.specs.declared.refusal.Refusal.{Refusal as Unfit};
-ghost use Rattle.polynomial.specs.Check.{Acceptable, fault};
+ghost use Rattle.std.specs.Prelude.{◌≡◌, ◌≤◌, map, OnErr};
 ghost use Rattle.involutive.specs.Answers.{Adds};
 ghost use Rattle.involutive.specs.Sound.{Sound};
 ghost use Rattle.calls.specs.Told.{added};
-ghost use Rattle.calls.specs.declared.refusal.Refusal.TheVariants.{Polynomial};
 ghost use Rattle.reduction.specs.Table.{setting, SoundTable};
-ghost use Rattle.sheet.specs.Agreement.{agreement_prop, queued_prop};
+ghost use Rattle.reduction.specs.Agreement.{agreement_prop};
+ghost use Rattle.sheet.specs.Agreement.{queued_prop};
 ghost use Rattle.sheet.specs.Marks.{rows_of, state_of};
 ghost use Rattle.sheet.specs.Queueing.{Queued, Passed};
 ghost use Rattle.sheet.specs.Rows.{lead_of};
@@ -15,6 +13,7 @@ ghost use Rattle.sheet.specs.Rows.{lead_of};
 use crate::copy::CopyBuffer;
 use crate::marks::Marks;
 use crate::queue::Queue;
+use crate::settle::refusal_of;
 use crate::table::Table;
 use calls::refusal::Refusal;
 use field::Field;
@@ -23,6 +22,7 @@ use monomial::order::Order;
 use polynomial::ring::Ring;
 use polynomial::term::Term;
 use reduction::reduce::Work;
+use reduction::rows::Rows;
 
 // A table over a ring and a division, which of its pairs are marked, all its pairs in the order in which steps take them, and
 // the buffers of its calls. What the table keeps beside the terms of its rows agrees with them; the queue has every pair of the
@@ -44,20 +44,6 @@ pub struct Sheet<F: Field, O: Order, D: Division> {
     ghost passed: { Passed table.rows.items (rows_of marks) queue.picks.items queue.next },
 }
 
-// Takes up a polynomial that is to be reduced.
-pub(crate) fn take<F: Field, O: Order>(
-    ring: &Ring<F, O>,
-    f: &[Term],
-    work: &mut Work,
-) -> Result<(), Refusal>
-    ensures { MatchResult result (λ _. Acceptable (F.Field.meaning ring.now.field) (O.Order.meaning ring.now.order) ring.now.variables f.now × (fault (F.Field.meaning ring.now.field) (O.Order.meaning ring.now.order) ring.now.variables f.now ≡ None) × (work.new.rest.terms.items ≡ f.now)) (λ refusal. (unfit : Unfit) × (fault (F.Field.meaning ring.now.field) (O.Order.meaning ring.now.order) ring.now.variables f.now ≡ Some unfit) × (refusal ≡ Polynomial unfit)) }
-{
-    ring.check(f).map_err(Refusal::Polynomial)?;
-    // It has at most 40 terms, so there is room.
-    let _ = work.load(f);
-    Ok(())
-}
-
 impl<F: Field, O: Order, D: Division> Sheet<F, O, D> {
     // Reduces a generator and appends what is left of it: how many rows there are then.
     pub(crate) fn add(&mut self, f: &[Term]) -> Result<usize, Refusal>
@@ -65,7 +51,12 @@ impl<F: Field, O: Order, D: Division> Sheet<F, O, D> {
         ensures refused { OnErr result ((self.new.table.rows.items ≡ self.old.table.rows.items) × (self.new.marks ≡ self.old.marks)) }
         ensures adds { Adds (setting (F.Field.meaning self.old.ring.field) (O.Order.meaning self.old.ring.order) (D.Division.meaning self.old.division) self.old.ring.variables) (state_of self.old.table.rows.items (rows_of self.old.marks)) f.now (added result) (state_of self.new.table.rows.items (rows_of self.new.marks)) }
     {
-        take(&self.ring, f, &mut self.work)?;
+        let rows = Rows {
+            ring: &self.ring,
+            division: &self.division,
+            rows: self.table.rows.as_slice(),
+        };
+        rows.reduce(f, &mut self.work).map_err(refusal_of)?;
         self.settle()?;
         Ok(self.table.rows.len())
     }

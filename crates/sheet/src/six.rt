@@ -2,9 +2,10 @@
 ghost use Rattle.reduction.specs.Table.{setting as setting_of};
 ghost use Rattle.sheet.specs.Marks.{rows_of, state_of};
 
+use crate::copy::write_fair_copy;
 use crate::put::put;
-use crate::rows::Rows;
-use crate::sheet::{Sheet, take};
+use crate::settle::refusal_of;
+use crate::sheet::Sheet;
 use crate::unit::leads_with_one;
 use calls::answer::{Copied, Step, Verdict};
 use calls::calls::Calls;
@@ -12,8 +13,8 @@ use calls::refusal::Refusal;
 use field::Field;
 use monomial::division::Division;
 use monomial::order::Order;
-use polynomial::check::MOST_TERMS;
 use polynomial::term::Term;
+use reduction::rows::Rows;
 
 impl<F: Field, O: Order, D: Division> Calls for Sheet<F, O, D> {
     ghost setting = { λ x. setting_of (F.Field.meaning x.ring.field) (O.Order.meaning x.ring.order) (D.Division.meaning x.division) x.ring.variables };
@@ -40,13 +41,12 @@ impl<F: Field, O: Order, D: Division> Calls for Sheet<F, O, D> {
     // The remainder of a polynomial, on a closed sheet.
     fn remainder(&mut self, f: &[Term], out: &mut [Term]) -> Result<usize, Refusal> {
         self.check_closed()?;
-        take(&self.ring, f, &mut self.work)?;
         let rows = Rows {
             ring: &self.ring,
             division: &self.division,
             rows: self.table.rows.as_slice(),
         };
-        rows.reduce(MOST_TERMS, &mut self.work)?;
+        rows.reduce(f, &mut self.work).map_err(refusal_of)?;
         put(self.work.done.terms.as_slice(), out)
     }
 
@@ -66,7 +66,7 @@ impl<F: Field, O: Order, D: Division> Calls for Sheet<F, O, D> {
             division: &self.division,
             rows: self.table.rows.as_slice(),
         };
-        rows.write_fair_copy(&mut self.work, &mut self.copy, out)
+        write_fair_copy(&rows, &mut self.work, &mut self.copy, out)
     }
 
     // Impossible where 1 lies in the ideal: then a row of a closed sheet leads with 1.

@@ -7,14 +7,14 @@ ghost use Rattle.sheet.specs.Marks.{rows_of, state_of};
 ghost use Rattle.sheet.specs.Queueing.{Passed, Waits};
 
 use crate::pair::Pair;
-use crate::rows::Rows;
-use crate::settle::Settled;
+use crate::settle::{Settled, refusal_of};
 use crate::sheet::Sheet;
 use calls::answer::Step;
 use calls::refusal::Refusal;
 use field::Field;
 use monomial::division::Division;
 use monomial::order::Order;
+use reduction::rows::Rows;
 
 impl<F: Field, O: Order, D: Division> Sheet<F, O, D> {
     // Takes the first open pair, by its place in the queue, and reduces its row times its variable: zero marks the pair, and
@@ -36,8 +36,10 @@ impl<F: Field, O: Order, D: Division> Sheet<F, O, D> {
             division: &self.division,
             rows: self.table.rows.as_slice(),
         };
-        rows.prolong(pair, &mut self.work.rest)
-            .map_err(|_| Refusal::Wide(pair.row))?;
+        // The pair is one of this sheet, so there are such a row and variable.
+        rows.reduce_prolongation(pair.row, pair.variable, &mut self.work)
+            .unwrap()
+            .map_err(refusal_of)?;
         match self.settle()? {
             Settled::Nothing => {
                 self.marks.mark(pair);

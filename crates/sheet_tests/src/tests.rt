@@ -2,6 +2,7 @@ use calls::answer::{Step, Verdict};
 use calls::calls::Calls;
 use calls::refusal::Refusal;
 use field::Field;
+use field::four::Four;
 use field::prime::Prime;
 use monomial::Monomial;
 use monomial::janet::Janet;
@@ -151,4 +152,52 @@ fn one_to_six_variables(rt: HostRuntime) -> Result<(), Fail> {
     }
     assert!(rt; make(rt.alloc(), 6).is_ok());
     Ok(())
+}
+
+// A sheet over the field of four elements with the row x1 + 2 x2^b; nothing where a call is denied.
+fn over_four(heap: Global, b: u8) -> Option<Sheet<Four, Lexicographic, Janet>> {
+    let ring = Ring {
+        field: Four,
+        order: Lexicographic,
+        variables: 2,
+    };
+    match Sheet::new(heap, ring, Janet) {
+        Err(_) => None,
+        Ok(mut sheet) => {
+            if sheet.add(&[term(1, 1, 0), term(2, 0, b)]).is_ok() {
+                Some(sheet)
+            } else {
+                None
+            }
+        }
+    }
+}
+
+#[test]
+fn reduces_to_a_constant(rt: HostRuntime) -> Result<(), Fail> {
+    match over_four(rt.alloc(), 1) {
+        None => Err(Fail::new("no sheet")),
+        Some(mut sheet) => {
+            // x2^2 + 3, whose prolongation by x1 reduces to zero
+            assert_eq!(rt; told(sheet.add(&[term(1, 0, 2), term(3, 0, 0)])), (0, 0));
+            assert!(rt; sheet.step().is_ok());
+            let mut out = [term(7, 7, 7); 2];
+            // x1^2 = 3 x2^2 = 3 * 3 = 2
+            assert_eq!(rt; told(sheet.remainder(&[term(1, 2, 0)], &mut out)), (0, 0));
+            assert!(rt; out[..1] == [term(2, 0, 0)]);
+            assert!(rt; out[1..] == [term(7, 7, 7)]);
+            Ok(())
+        }
+    }
+}
+
+#[test]
+fn refuses_an_exponent_above_40(rt: HostRuntime) -> Result<(), Fail> {
+    match over_four(rt.alloc(), 40) {
+        None => Err(Fail::new("no sheet")),
+        Some(mut sheet) => {
+            assert_eq!(rt; told(sheet.add(&[term(1, 1, 1)])), (9, 1));
+            Ok(())
+        }
+    }
 }

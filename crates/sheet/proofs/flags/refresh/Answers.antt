@@ -2,7 +2,7 @@ use Rattle.std.proofs.Common.{ℕ, suc, ◌<◌, [], length, refl, ◌∙◌, su
 use Rattle.monomial.specs.Lists.{exponents_of}
 use Rattle.reduction.specs.Table.{terms_of}
 use Rattle.sheet.specs.Rows.{lead_of, flags_of, Asked}
-use Rattle.sheet.proofs.Mapping.{map_kept_at, map_updated}
+use Rattle.reduction.proofs.Mapping.{map_kept_at, map_updated}
 use Rattle.sheet.proofs.flags.refresh.Goals as goal
 
 pub loop-i-preserved : goal.loop-i-preserved

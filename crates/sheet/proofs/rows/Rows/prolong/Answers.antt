@@ -1,9 +1,0 @@
-use Rattle.std.proofs.Common.{vec_items}
-use Rattle.sheet.proofs.Prolonging.{prolonged_row}
-use Rattle.sheet.proofs.rows.Rows.prolong.Goals as goal
-
-pub returns : goal.returns
-returns g c =
-    let x = c.args.self.now in
-    let n = x.ring.now.variables in
-    prolonged_row (g.F.Field.meaning x.ring.now.field) (g.O.Order.meaning x.ring.now.order) (g.D.Division.meaning x.division.now) n x.rows.now x.agrees c.args.pair.row c.args.pair.variable c.requires c.index-self-pair.result c.index-self-pair.is c.scale.result (vec_items c.scale.new.out.terms) c.as_slice.result.now c.variable.result.exponents c.as_slice.ensures.value c.variable.ensures (g.met.F.Field.laws x.ring.now.field).differ (c.scale.ensures.value n)

@@ -1,7 +1,0 @@
-use Rattle.std.proofs.Common.{◌≤◌, map, vec_items, vec_len, vec_capacity}
-use Rattle.sheet.specs.Rows.{lead_of}
-use Rattle.sheet.proofs.Selections.{SoFar}
-use Rattle.sheet.proofs.rows.Rows.select.Given as goal
-
-abbrev pub invariant-loop-i : goal.invariant-loop-i
-invariant-loop-i g l = (vec_len l.list ≤ l.i) × (32 ≤ vec_capacity l.list) × SoFar (g.O.Order.meaning l.self.ring.now.order) (map lead_of l.self.rows.now) l.i (vec_items l.list)
