@@ -3,6 +3,7 @@ ghost use Rattle.std.specs.Prelude.{◌≡◌, ◌≤◌, length, MatchResult, O
 ghost use Rattle.involutive.specs.Sheet.{Setting, Lawful, State};
 ghost use Rattle.involutive.specs.Answers.{Adds, Steps, Remains, Shows, FairCopies, Judges};
 ghost use Rattle.involutive.specs.Log as log_of;
+ghost use Rattle.involutive.specs.Once.{OneAnswer};
 ghost use Rattle.involutive.specs.Sound.{Sound};
 ghost use Rattle.calls.specs.Logs.{LoggedAdd, Logged};
 ghost use Rattle.calls.specs.Told.{added, stepped, wrote, copied, judged};
@@ -11,9 +12,9 @@ use crate::answer::{Copied, Step, Verdict};
 use crate::refusal::Refusal;
 use polynomial::term::Term;
 
-// Each call promises, on every value, that the setting stays, that a refused call leaves the state and the lent buffer
-// as they were, and that what was written fits the buffer. On a sound state it promises the answer, the state and the
-// buffer that the definitions give, that the state is sound again, and that the call enters the log.
+// Each call promises, on every value, the answer, the state and the buffer that the definitions give, and that the call enters
+// the log; that the setting stays; and that a refused call leaves the state and the lent buffer as they were. What a sheet is
+// made of keeps its laws, and its state is sound: both hold of every value that there is of the type.
 pub trait Calls {
     // What the sheet is made of, and what it holds.
     ghost setting: { Self → Setting };
@@ -57,6 +58,13 @@ pub trait Calls {
 
     ghost lawful: { (x : Self) → Lawful (setting x) };
 
-    // Whatever value there is of the type, its state is sound.
     ghost sound: { (x : Self) → ∥ Sound (setting x) (state x) ∥₁ };
+}
+
+// To each call on any sheet that there is the definitions allow one answer at most, one state and one buffer after it: so what
+// a call's clause `answer` tells is all that could be. There is nothing to run.
+pub fn one_answer<C: Calls>(sheet: &C)
+    ensures { OneAnswer (C.Calls.setting sheet.now) (C.Calls.state sheet.now) }
+{
+    let _ = sheet;
 }

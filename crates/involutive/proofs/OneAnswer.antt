@@ -1,5 +1,8 @@
 -- Every call has at most one answer, and so a log leaves one state.
 use Rattle.std.proofs.Common.{◌≡◌, ℕ, suc, ◌-◌, ◌<◌, ◌≤◌, cond, eqb, ltb, ◌⊎◌, List, [], ◌∷◌, ◌++◌, length, drop, Some, None, Option, sym, refl, ap, ◌∙◌, subst, subst₂, inl, inr, arith}
+use mathlib.Core.Sum.{⊎_set}
+use Rattle.std.proofs.Math.Logic.{∥∥₁_elim}
+use Rattle.std.proofs.Props.{props}
 use Rattle.std.proofs.lemmas.Bool.{eq-eqb, ne_eqb, lt-ltb, le-ltb, cond-true, cond-false, both_ways}
 use Rattle.polynomial.specs.Polynomial.{Poly}
 use Rattle.involutive.specs.Reduction.{row, Refusal, Outcome, left, refused, refuse}
@@ -10,7 +13,7 @@ use Rattle.polynomial.specs.declared.refusal.Refusal.{Refusal as Fault}
 use Rattle.involutive.specs.Answers.{rows_now, closed_answer, marked_answer, appended_answer, written, copied_answer, denied, first_fault, fault_refusal, ReducesTo, Adds, Steps, Remains, Shows, FairCopies, Judges, front, Answer, Selection, Copies, Copied, copies, copy_refused}
 use Rattle.polynomial.specs.Bytes.{copy_bytes}
 use Rattle.involutive.specs.Log.{Call, After, made, added, not_added, stepped, reduced, shown, copied, judged}
-use Rattle.involutive.specs.Once.{OneAnswerEach, OneState}
+use Rattle.involutive.specs.Once.{OneAnswer, OneAnswerEach, OneState}
 use Rattle.involutive.proofs.Soundness
 use Rattle.involutive.proofs.OneReduction.{reduced_one}
 use Rattle.involutive.proofs.OneChoice.{chosen_one, selection_one}
@@ -246,8 +249,8 @@ module _ (S : Setting) (W : Lawful S) where
   after_one (copied a h) (copied b k) = after_one a b
   after_one (judged a h) (judged b k) = after_one a b
 
-pub one_answer : OneAnswerEach
-one_answer S W s I = record {
+pub sound_one : (S : Setting) → Lawful S → (s : State) → Sound S s → OneAnswer S s
+sound_one S W s I = record {
   reduces = λ room h o p w a b. reduced_one S W I w a b;
   adds = λ f a b s₁ s₂ p q. parts (adds_one S W s I p q);
   steps = λ a b s₁ s₂ p q. parts (steps_one S W s I p q);
@@ -256,6 +259,10 @@ one_answer S W s I = record {
   fair_copies = λ out a b out₁ out₂ p q. parts (fair_copies_one S W s I p q);
   judges = λ a b p q. judges_one S W s I p q;
 }
+
+-- what is said are equations in sets, so that there is a proof of soundness serves
+pub one_answer : OneAnswerEach
+one_answer S W s I = ∥∥₁_elim I (hlevel (⊎_set, props)) (sound_one S W s)
 
 pub one_state : OneState
 one_state S W calls s₁ s₂ gs₁ gs₂ a b = parts (after_one S W a b)

@@ -1,4 +1,5 @@
 -- One answer: on a sound sheet each call has at most one answer and leaves one state and one buffer, so a log determines its sheet.
+-- That the sheet is sound is asked for as a type tells it of its values, without a proof to take apart (`∥ .. ∥₁`).
 use Rattle.std.specs.Prelude.{◌≡◌, ℕ, List}
 use Rattle.polynomial.specs.Polynomial.{Poly, Written}
 use Rattle.involutive.specs.Reduction.{Outcome}
@@ -17,7 +18,7 @@ pub record OneAnswer (S : Setting) (s : State) : Type 0 where
   pub judges : (a b : Answer) → Judges S s a → Judges S s b → a ≡ b
 
 abbrev pub OneAnswerEach : Type 0
-OneAnswerEach = (S : Setting) → Lawful S → (s : State) → Sound S s → OneAnswer S s
+OneAnswerEach = (S : Setting) → Lawful S → (s : State) → ∥ Sound S s ∥₁ → OneAnswer S s
 
 -- a log determines the state that it leaves, and the generators that were accepted
 abbrev pub OneState : Type 0

@@ -1,5 +1,5 @@
--- What the code of a subtraction computes on every value, sound or not, one term after another.
--- Only contracts of private functions use these words; no public contract does.
+-- What the code of a multiple and of a subtraction computes on every value, sound or not, one term after another. The public
+-- contract of `scale` uses the words on multiples (`image`, `all_small`, `NotMultiplied`), and no public contract uses another.
 use Rattle.std.specs.Prelude.{◌≡◌, ℕ, ◌+◌, ◌<◌, ◌≤◌, min, Bool, true, false, ◌&&◌, List, [], ◌∷◌, ◌++◌, length, Ok, Err, Result, nat_le, slice_index_or}
 use Rattle.std.specs.declared.cmp.Ordering.TheVariants.{Less, Equal, Greater}
 use Rattle.std.specs.List.{list_all}

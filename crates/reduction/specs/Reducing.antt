@@ -1,5 +1,5 @@
 -- What reducing answers and leaves, in the words of the definitions.
-use Rattle.std.specs.Prelude.{◌≡◌, ℕ, [], Some, None, Ok, Err, OnErr, Result}
+use Rattle.std.specs.Prelude.{◌≡◌, ℕ, [], Some, None, Ok, Err, OnErr, Result, vec_items}
 use Rattle.monomial.specs.Monomial.{variable}
 use Rattle.polynomial.specs.declared.refusal.Refusal.{Refusal as Unfit}
 use Rattle.polynomial.specs.Polynomial.{Poly}
@@ -8,6 +8,7 @@ use Rattle.involutive.specs.Value.{scaled}
 use Rattle.involutive.specs.Reduction.{Table, row, Refusal, refuse, Outcome, left, refused, Reduces}
 use Rattle.involutive.specs.Sheet.{Setting}
 use Rattle.involutive.specs.Answers.{first_fault, fault_refusal}
+use Rattle.reduction.specs.declared.reduce.Work.{Work}
 use Rattle.reduction.specs.declared.refusal.Denied.{Denied}
 use Rattle.reduction.specs.declared.refusal.Denied.TheVariants.{Polynomial, Wide, Long}
 use Rattle.reduction.specs.declared.refusal.Reason.{Reason}
@@ -48,3 +49,7 @@ module _ (S : Setting) (T : Table) where
   pub data ProlongsAndReduces (k v : ℕ) : Result (Unit {0}) Denied → Poly → Type 0 where
     too_wide : (Fits (prolongation k v) → ⊥) → ProlongsAndReduces k v (Err (Wide k)) []
     small : {r : Result (Unit {0}) Denied} {g : Poly} → Fits (prolongation k v) → Reduced most_terms (prolongation k v) r g → ProlongsAndReduces k v r g
+
+-- the memory holds no term
+abbrev pub IsUnused : Work → Type 0
+IsUnused w = (vec_items w.rest.terms ≡ []) × (vec_items w.done.terms ≡ []) × (vec_items w.spare.terms ≡ [])

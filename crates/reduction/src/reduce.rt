@@ -1,12 +1,12 @@
 // Reducing by a table until no term has an involutive divisor.
-ghost use Rattle.std.specs.Prelude.{◌≡◌, ℕ, ◌<◌, ◌≤◌, [], length, drop, IfOk, MatchResult};
+ghost use Rattle.std.specs.Prelude.{◌≡◌, ℕ, ◌<◌, ◌≤◌, length, drop, IfOk, MatchResult};
 ghost use Rattle.monomial.specs.Monomial.{In, quotient as divided};
 ghost use Rattle.polynomial.specs.Polynomial.{Written};
 ghost use Rattle.polynomial.specs.Check.{Acceptable, most_terms};
 ghost use Rattle.involutive.specs.Value.{scaled};
 ghost use Rattle.reduction.specs.Table.{setting, terms_of, table_of};
 ghost use Rattle.reduction.specs.Subtraction.{Subtracted};
-ghost use Rattle.reduction.specs.Reducing.{Reduced};
+ghost use Rattle.reduction.specs.Reducing.{Reduced, IsUnused};
 
 use crate::buffer::{Buffer, NoRoom};
 use crate::refusal::{Denied, Reason};
@@ -62,7 +62,7 @@ pub struct Work {
 impl Work {
     // Empty buffers, or want of memory.
     pub fn new(heap: Global) -> Result<Work, AllocError>
-        ensures { IfOk result (λ work. (work.rest.terms.items ≡ []) × (work.done.terms.items ≡ []) × (work.spare.terms.items ≡ [])) }
+        ensures { IfOk result IsUnused }
     {
         let rest = Buffer::new(heap)?;
         let done = Buffer::new(heap)?;

@@ -7,7 +7,7 @@ use Rattle.involutive.specs.Sheet.{Setting, Lawful, State}
 use Rattle.involutive.specs.Answers.{Answer, rows_now, closed_answer, marked_answer, appended_answer, written, copied_answer, verdict_answer, denied, Steps}
 use Rattle.involutive.specs.Log.{Call, After}
 use Rattle.involutive.specs.Sound.{Sound}
-use Rattle.involutive.proofs.OneAnswer.{one_answer}
+use Rattle.involutive.proofs.OneAnswer.{sound_one}
 use Rattle.involutive.proofs.Soundness
 use Rattle.lines.specs.Line.{line}
 use Rattle.replay.specs.Words.{operand_bytes, answered, stepped, refused_line}
@@ -97,7 +97,7 @@ module _ {S : Setting} where
 
 module _ (S : Setting) (W : Lawful S) where
   step_one : {s t t' : State} {a b : Answer} → Sound S s → Steps S s a t → Steps S s b t' → (a ≡ b) × (t ≡ t')
-  step_one {s} {t} {t'} {a} {b} I p q = (one_answer S W s I).steps a b t t' p q
+  step_one {s} {t} {t'} {a} {b} I p q = (sound_one S W s I).steps a b t t' p q
 
   unlike : {X : Type 0} {s t t' : State} {a b : Answer} → Sound S s → Steps S s a t → Steps S s b t' → (kind a ≡ kind b → ⊥) → X
   unlike I p q f = absurd (f (ap kind (step_one I p q).0))
@@ -123,12 +123,12 @@ module _ (S : Setting) (W : Lawful S) where
 
   does_one : {s t t' : State} {log log' l l' : List Call} {gs : List Poly} {at b : ℕ} {ops x x' : List ℕ} {g g₁ g₂ : Poly} → After S log s gs → Does S s log g at b ops t l g₁ x → Does S s log' g at b ops t' l' g₂ x' → (t ≡ t') × (g₁ ≡ g₂) × (x ≡ x')
   does_one h Does.gathers Does.gathers = (refl, refl, refl)
-  does_one {s = s} {at = at} {g = g} h (Does.adds a) (Does.adds b) = let o = (one_answer S W s (Soundness.sound S W h)).adds g _ _ _ _ a b in (o.1, refl, ap (answered at 2) o.0)
+  does_one {s = s} {at = at} {g = g} h (Does.adds a) (Does.adds b) = let o = (sound_one S W s (Soundness.sound S W h)).adds g _ _ _ _ a b in (o.1, refl, ap (answered at 2) o.0)
   does_one {at = at} h (Does.steps a) (Does.steps b) = let i = stepping_one h a b in (i.2, refl, ap₂ (stepped at) i.0 i.1)
   does_one {at = at} h (Does.remains p a) (Does.remains q b) = (refl, refl, remainder_line S W (Soundness.sound S W h) p q a b at)
   does_one {at = at} h (Does.shows p a) (Does.shows q b) = (refl, refl, row_line S W (Soundness.sound S W h) p q a b at)
   does_one {at = at} h (Does.copies p a) (Does.copies q b) = (refl, refl, copy_line S W (Soundness.sound S W h) p q a b at)
-  does_one {s = s} {at = at} h (Does.judges a) (Does.judges b) = (refl, refl, ap (answered at 7) ((one_answer S W s (Soundness.sound S W h)).judges _ _ a b))
+  does_one {s = s} {at = at} h (Does.judges a) (Does.judges b) = (refl, refl, ap (answered at 7) ((sound_one S W s (Soundness.sound S W h)).judges _ _ a b))
 
   -- two runs from one state, with the same terms gathered, write one text; their logs differ in the lent buffers only
   runs_one : {s t t' : State} {log log' l l' : List Call} {gs : List Poly} {g : Poly} {at : ℕ} {bs x x' : List ℕ} → After S log s gs → Runs S s log g at bs t l x → Runs S s log' g at bs t' l' x' → x ≡ x'

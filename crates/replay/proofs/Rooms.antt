@@ -18,7 +18,7 @@ use Rattle.involutive.specs.Sound.{Sound}
 use Rattle.involutive.proofs.Lists.{Up, up_nil, up_cons}
 use Rattle.involutive.proofs.Copying.{CopyOf, Beside, no_more, one_more, beside}
 use Rattle.involutive.proofs.WrittenLists.{under_asym}
-use Rattle.involutive.proofs.OneAnswer.{one_answer}
+use Rattle.involutive.proofs.OneAnswer.{sound_one}
 use Rattle.involutive.proofs.Soundness
 use Rattle.involutive.proofs.Sheets
 use Rattle.lines.specs.Line.{line, bytes_field}
@@ -151,17 +151,17 @@ module _ (S : Setting) (W : Lawful S) {s : State} (I : Sound S s) where
   pub remainder_line : {f o o' out out' : Poly} {a b : Answer} → most_terms ≤ length out → most_terms ≤ length o → Remains S s f out a out' → Remains S s f o b o' → (at : ℕ) → shown at 4 a out' ≡ shown at 4 b o'
   remainder_line {out = out} {out' = out'} {a = a} {b = b} n l p q at =
       let w = remains_other out l n q in
-      let e = (one_answer S W s I).remains _ out a b out' w.now p w.holds in
+      let e = (sound_one S W s I).remains _ out a b out' w.now p w.holds in
       ap₂ (shown at 4) e.0 e.1 ∙ sym (ap (λ x. line at 4 (number_of b) (value_of b) (bytes_field x)) w.same)
 
   pub row_line : {k : ℕ} {o o' out out' : Poly} {a b : Answer} → most_terms ≤ length out → most_terms ≤ length o → Shows S s k out a out' → Shows S s k o b o' → (at : ℕ) → shown at 5 a out' ≡ shown at 5 b o'
   row_line {out = out} {out' = out'} {a = a} {b = b} n l p q at =
       let w = shows_other out l n q in
-      let e = (one_answer S W s I).shows _ out a b out' w.now p w.holds in
+      let e = (sound_one S W s I).shows _ out a b out' w.now p w.holds in
       ap₂ (shown at 5) e.0 e.1 ∙ sym (ap (λ x. line at 5 (number_of b) (value_of b) (bytes_field x)) w.same)
 
   pub copy_line : {o o' out out' : List ℕ} {a b : Answer} → most_bytes ≤ length out → most_bytes ≤ length o → FairCopies S s out a out' → FairCopies S s o b o' → (at : ℕ) → copied at a out' ≡ copied at b o'
   copy_line {out = out} {out' = out'} {a = a} {b = b} n l p q at =
       let w = copies_other out l n q in
-      let e = (one_answer S W s I).fair_copies out a b out' w.now p w.holds in
+      let e = (sound_one S W s I).fair_copies out a b out' w.now p w.holds in
       ap₂ (copied at) e.0 e.1 ∙ sym (ap (λ x. line at 6 (number_of b) (value_of b) (bytes_field x)) w.same)

@@ -1,4 +1,4 @@
--- What a call promises on a sound sheet, from its answer: the sheet is sound again, and the call enters the log.
+-- What follows from a call's answer: it enters the log, and a sound state stays one where ring and division stay.
 use Rattle.std.proofs.Common.{◌≡◌, ℕ, Ok, Err, Result, sym, subst, ap₂}
 use Rattle.polynomial.specs.Polynomial.{Poly}
 use Rattle.involutive.specs.Sheet.{Setting, State}

@@ -26,7 +26,7 @@ use reduction::rows::Rows;
 
 // A table over a ring and a division, which of its pairs are marked, all its pairs in the order in which steps take them, and
 // the buffers of its calls. What the table keeps beside the terms of its rows agrees with them; the queue has every pair of the
-// rows, in order; and the pairs before its `next` are not open.
+// rows, in order; rows and marks are a sound state; and the pairs before the queue's `next` are not open.
 #[derive(Drop)]
 pub struct Sheet<F: Field, O: Order, D: Division> {
     pub(crate) ring: Ring<F, O>,

@@ -1,10 +1,10 @@
 use Rattle.std.proofs.Common.{◌≡◌, Err, None, Ok, vec_items, sym, ap, ◌∙◌, subst, arith, rules}
 use borrow.Author.Tests.{tests}
 use Rattle.polynomial.specs.Check.{fault, outcome}
-use Rattle.polynomial.proofs.Checking.{refused, granted, acceptable_from}
+use Rattle.polynomial.proofs.Checking.{refused, acceptable_from}
 use Rattle.reduction.specs.declared.refusal.Denied.TheVariants.{Polynomial}
 use Rattle.reduction.specs.Reducing.{unfit, fit, Reduced}
-use Rattle.reduction.proofs.Loading.{loaded}
+use Rattle.reduction.proofs.Loading.{faultless, loaded}
 use Rattle.reduction.proofs.Renaming.{renamed, unrefused}
 use Rattle.reduction.proofs.rows.Rows.reduce.Goals as goal
 
@@ -24,21 +24,13 @@ returns-in_err-map_err g c =
 pub reduce_within-requires : goal.reduce_within-requires
 reduce_within-requires g c =
     let x = c.args.self.now.ring.now in
-    let F = g.F.Field.meaning x.field in
-    let O = g.O.Order.meaning x.order in
-    let f = c.args.f.now in
-    let n : fault F O x.variables f ≡ None = sym (granted F O x.variables (fault F O x.variables f) (sym c.check.ensures.first ∙ unrefused c.check.result c.map_err.result _ c.map_err.ensures.cases c.in_ok-map_err.field-0 c.in_ok-map_err.was)) in
-    let a = acceptable_from F O x.variables f n in
-    let l = loaded f _ (vec_items c.load.new.self.rest.terms) c.load.result a.short c.load.ensures in
-    rw l (record { acceptable = a; room = a.short })
+    let n = faultless (g.F.Field.meaning x.field) (g.O.Order.meaning x.order) x.variables c.args.f.now c.check.result c.check.ensures.first (unrefused c.check.result c.map_err.result _ c.map_err.ensures.cases c.in_ok-map_err.field-0 c.in_ok-map_err.was) in
+    let a = acceptable_from (g.F.Field.meaning x.field) (g.O.Order.meaning x.order) x.variables c.args.f.now n in
+    rw (loaded c.args.f.now _ (vec_items c.load.new.self.rest.terms) c.load.result a.short c.load.ensures) (record { acceptable = a; room = a.short })
 
 pub returns : goal.returns
 returns g c =
     let x = c.args.self.now.ring.now in
-    let F = g.F.Field.meaning x.field in
-    let O = g.O.Order.meaning x.order in
-    let f = c.args.f.now in
-    let n : fault F O x.variables f ≡ None = sym (granted F O x.variables (fault F O x.variables f) (sym c.check.ensures.first ∙ unrefused c.check.result c.map_err.result _ c.map_err.ensures.cases c.in_ok-map_err.field-0 c.in_ok-map_err.was)) in
-    let a = acceptable_from F O x.variables f n in
-    let l = loaded f _ (vec_items c.load.new.self.rest.terms) c.load.result a.short c.load.ensures in
-    fit n (rw l at c.reduce_within.ensures)
+    let n = faultless (g.F.Field.meaning x.field) (g.O.Order.meaning x.order) x.variables c.args.f.now c.check.result c.check.ensures.first (unrefused c.check.result c.map_err.result _ c.map_err.ensures.cases c.in_ok-map_err.field-0 c.in_ok-map_err.was) in
+    let a = acceptable_from (g.F.Field.meaning x.field) (g.O.Order.meaning x.order) x.variables c.args.f.now n in
+    fit n (rw (loaded c.args.f.now _ (vec_items c.load.new.self.rest.terms) c.load.result a.short c.load.ensures) at c.reduce_within.ensures)
