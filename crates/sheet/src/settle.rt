@@ -48,6 +48,7 @@ pub(crate) fn refusal_of(denied: Denied) -> Refusal
 impl<F: Field, O: Order, D: Division> Sheet<F, O, D> {
     // Appends what `work.done` holds, which the rows left of a polynomial, where that is anything. A new row clears all marks
     // and joins the queue.
+    #[tactic(auto, using(crate::proofs::Settlings::settle_nothing))]
     pub(crate) fn settle(&mut self) -> Result<Settled, Refusal>
         requires { Left (setting (F.Field.meaning self.old.ring.field) (O.Order.meaning self.old.ring.order) (D.Division.meaning self.old.division) self.old.ring.variables) (table_of self.old.table.rows.items) self.old.work.done.terms.items }
         ensures setting { (self.new.ring ≡ self.old.ring) × (self.new.division ≡ self.old.division) }

@@ -11,11 +11,6 @@ use Rattle.sheet.proofs.Whole.{whole}
 use Rattle.sheet.proofs.Settlings.{rest_of, settle_nothing, settle_full, settle_appends, settle_stands, settle_leads, settles_sound}
 use Rattle.sheet.proofs.sheet.Sheet.settle.Goals as goal
 
-pub returns-then-is_empty-clause-settles : goal.returns-then-is_empty-clause-settles
-returns-then-is_empty-clause-settles g c =
-    let left = c.as_slice-left in
-    rw (← left.ensures.value) (settle_nothing left.result.now (eqb-true (length left.result.now) 0 (sym c.if-is_empty.ensures)))
-
 pub returns-in_err-append-clause-settles : goal.returns-in_err-append-clause-settles
 returns-in_err-append-clause-settles g c =
     let x = c.args.self.now in
