@@ -1,6 +1,6 @@
 // The rows of a table, lent with the ring and the division that they agree with, and what is reduced by them: a polynomial that
 // is handed over, a row times a variable, and the terms behind a row's first.
-ghost use Rattle.std.specs.Prelude.{◌≡◌, ◌-◌, ◌≤◌, drop, length, MatchOption};
+ghost use Rattle.std.specs.Prelude.{◌≡◌, ◌-◌, ◌≤◌, drop, length, is_some, IfSome, IfNone, Decides};
 ghost use Rattle.monomial.specs.Division.{Within};
 ghost use Rattle.polynomial.specs.Check.{most_terms};
 ghost use Rattle.involutive.specs.Reduction.{row as line};
@@ -44,52 +44,51 @@ impl<F: Field, O: Order, D: Division> Rows<'_, F, O, D> {
         self.reduce_within(Room::ALL, work)
     }
 
-    // Reduces row k times the variable v, with room for 40 terms; or tells, changing nothing, that there is no such row or
+    // Reduces a row times a variable, with room for 40 terms; or tells, changing nothing, that there is no such row or
     // variable.
     pub fn reduce_prolongation(
         &self,
-        k: usize,
-        v: usize,
+        row: usize,
+        variable: usize,
         work: &mut Work,
     ) -> Option<Result<(), Denied>>
-        ensures { let S = setting (F.Field.meaning self.now.ring.now.field) (O.Order.meaning self.now.ring.now.order) (D.Division.meaning self.now.division.now) self.now.ring.now.variables in
-            let There = Within k (length self.now.rows.now) × Within v self.now.ring.now.variables in
-            MatchOption result
-            ((There → ⊥) × (work.new.done.terms.items ≡ work.old.done.terms.items))
-            (λ answer. There × ProlongsAndReduces S (table_of self.now.rows.now) k v answer work.new.done.terms.items) }
+        ensures there { Decides (is_some result) (Within row (length self.now.rows.now) × Within variable self.now.ring.now.variables) }
+        ensures kept { IfNone result (work.new.done.terms.items ≡ work.old.done.terms.items) }
+        ensures answer { let S = setting (F.Field.meaning self.now.ring.now.field) (O.Order.meaning self.now.ring.now.order) (D.Division.meaning self.now.division.now) self.now.ring.now.variables in
+            IfSome result (λ answer. ProlongsAndReduces S (table_of self.now.rows.now) row variable answer work.new.done.terms.items) }
     {
-        if k == 0 || k > self.rows.len() || v == 0 || v > self.ring.variables {
+        if row == 0 || row > self.rows.len() || variable == 0 || variable > self.ring.variables {
             return None;
         }
-        Some(self.prolong_and_reduce(k, v, work))
+        Some(self.prolong_and_reduce(row, variable, work))
     }
 
     // The same, where there are such a row and variable.
-    fn prolong_and_reduce(&self, k: usize, v: usize, work: &mut Work) -> Result<(), Denied>
-        requires { Within k (length self.now.rows.now) × Within v self.now.ring.now.variables }
+    fn prolong_and_reduce(&self, row: usize, variable: usize, work: &mut Work) -> Result<(), Denied>
+        requires { Within row (length self.now.rows.now) × Within variable self.now.ring.now.variables }
         ensures { let S = setting (F.Field.meaning self.now.ring.now.field) (O.Order.meaning self.now.ring.now.order) (D.Division.meaning self.now.division.now) self.now.ring.now.variables in
-            ProlongsAndReduces S (table_of self.now.rows.now) k v result work.new.done.terms.items }
+            ProlongsAndReduces S (table_of self.now.rows.now) row variable result work.new.done.terms.items }
     {
         work.done.clear();
-        self.prolong(k, v, &mut work.rest)
-            .map_err(|_| Denied::Wide(k))?;
+        self.prolong(row, variable, &mut work.rest)
+            .map_err(|_| Denied::Wide(row))?;
         self.reduce_within(Room::ALL, work)
     }
 
-    // Reduces the terms behind the first one of row k, with room for 39, so that with its first term the row has at most 40; or
+    // Reduces the terms behind the first one of a row, with room for 39, so that with its first term the row has at most 40; or
     // tells, changing nothing, that there is no such row.
-    pub fn reduce_tail(&self, k: usize, work: &mut Work) -> Option<Result<(), Denied>>
-        ensures { let S = setting (F.Field.meaning self.now.ring.now.field) (O.Order.meaning self.now.ring.now.order) (D.Division.meaning self.now.division.now) self.now.ring.now.variables in
+    pub fn reduce_tail(&self, row: usize, work: &mut Work) -> Option<Result<(), Denied>>
+        ensures there { Decides (is_some result) (Within row (length self.now.rows.now)) }
+        ensures kept { IfNone result (work.new.done.terms.items ≡ work.old.done.terms.items) }
+        ensures answer { let S = setting (F.Field.meaning self.now.ring.now.field) (O.Order.meaning self.now.ring.now.order) (D.Division.meaning self.now.division.now) self.now.ring.now.variables in
             let T = table_of self.now.rows.now in
-            MatchOption result
-            ((Within k (length self.now.rows.now) → ⊥) × (work.new.done.terms.items ≡ work.old.done.terms.items))
-            (λ answer. Within k (length self.now.rows.now) × Reduced S T (most_terms - 1) (drop 1 (line T k)) answer work.new.done.terms.items) }
+            IfSome result (λ answer. Reduced S T (most_terms - 1) (drop 1 (line T row)) answer work.new.done.terms.items) }
     {
-        if k == 0 || k > self.rows.len() {
+        if row == 0 || row > self.rows.len() {
             return None;
         }
         // A row has at most 40 terms, so there is room.
-        let _ = work.load(&self.rows[k - 1].terms.as_slice()[1..]);
+        let _ = work.load(&self.rows[row - 1].terms.as_slice()[1..]);
         Some(self.reduce_within(Room::new(MOST_TERMS - 1), work))
     }
 }

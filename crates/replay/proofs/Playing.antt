@@ -9,11 +9,9 @@ use Rattle.replay.specs.declared.stop.Stop.TheVariants.{Unread, Misplaced}
 use Rattle.replay.specs.Words.{operand_bytes, refused_line}
 use Rattle.replay.specs.Grammar.{byte_of, operands_of, stop_byte, stop_number, Reads, ReadsCall}
 use Rattle.polynomial.specs.Polynomial.{Poly}
-use Rattle.involutive.specs.Sheet.{Setting, Lawful, State}
+use Rattle.involutive.specs.Sheet.{Setting, State}
 use Rattle.involutive.specs.Log.{Call, After}
-use Rattle.involutive.specs.Sound.{Sound}
 use Rattle.replay.specs.Replay.{Acts, Appends, Runs, ends, stops, made_again, goes_on, CommandAt, Faulty, unknown, short}
-use Rattle.involutive.proofs.Soundness.{sound}
 use Rattle.replay.proofs.Acting.{after_does}
 
 pub record Reached (S : Setting) (s₀ : State) (log₀ : List Call) (at₀ : ℕ) (bs₀ before after : List ℕ) (s : State) (g : Poly) (at : ℕ) (bs : List ℕ) : Type 0 where

@@ -1,5 +1,5 @@
 -- What add answers, from what reducing the generator answered and what became of what was left.
-use Rattle.std.proofs.Common.{◌≡◌, ℕ, List, ◌∷◌, [], length, Some, None, Ok, Err, Result, sym, ap, ◌∙◌, subst, subst₂, arith, length-append}
+use Rattle.std.proofs.Common.{◌≡◌, ℕ, List, ◌∷◌, [], length, None, Ok, Err, Result, subst, subst₂, arith, length-append}
 use Rattle.monomial.specs.Monomial.{one}
 use Rattle.polynomial.specs.Polynomial.{Poly}
 use Rattle.polynomial.specs.Check.{most_terms}

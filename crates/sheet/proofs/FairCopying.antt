@@ -1,14 +1,10 @@
 -- The bytes of the copies, row by row.
-use Rattle.std.proofs.Common.{◌≡◌, ℕ, ◌+◌, ◌-◌, ◌<◌, ◌≤◌, Bool, true, cond, List, [], ◌∷◌, ◌++◌, length, get_or, take, drop, Ok, Err, Result, sym, refl, ap, ◌∙◌, subst, ap₂, subst₂, append_assoc, append-nil, arith, length-append, MatchResult}
-use mathlib.Core.List.Memᴰ
+use Rattle.std.proofs.Common.{◌≡◌, ℕ, ◌+◌, ◌-◌, ◌<◌, ◌≤◌, Bool, true, cond, List, [], ◌∷◌, ◌++◌, length, get_or, take, drop, Ok, Err, Result, sym, refl, ap, ◌∙◌, subst, ap₂, subst₂, append_assoc, append-nil, arith, length-append}
 use Rattle.std.proofs.lemmas.List.{take_more, drop_more, drop_all}
 use Rattle.std.proofs.lemmas.Bool.{cond-true}
 use Rattle.polynomial.specs.declared.term.Term.{Term}
-use Rattle.field.specs.Field.{FieldMeaning}
-use Rattle.monomial.specs.Order.{Compare}
-use Rattle.monomial.specs.Division.{Within}
-use Rattle.polynomial.specs.Polynomial.{Poly, Falling, none, single, more}
-use Rattle.polynomial.specs.Check.{Acceptable, most_terms}
+use Rattle.polynomial.specs.Polynomial.{Poly}
+use Rattle.polynomial.specs.Check.{most_terms}
 use Rattle.polynomial.specs.Bytes.{term_bytes, poly_bytes, copy_bytes}
 use Rattle.polynomial.proofs.Codec.{bytes_push}
 use Rattle.involutive.specs.Reduction.{Table, row, Refusal, refuse, refused, Reduces}

@@ -6,7 +6,7 @@ use Rattle.std.proofs.lemmas.Bool.{eqb-false}
 use Rattle.monomial.specs.Monomial.{Wide, one}
 use Rattle.polynomial.specs.declared.term.Term.{Term}
 use Rattle.polynomial.specs.Polynomial.{Poly, Over, leading, leading_coefficient}
-use Rattle.polynomial.specs.Check.{Acceptable, Fits, most_terms}
+use Rattle.polynomial.specs.Check.{Acceptable, Fits}
 use Rattle.involutive.specs.Value.{scaled}
 use Rattle.involutive.specs.Sheet.{Setting, Lawful, State, most_rows, with_row}
 use Rattle.involutive.specs.Sound.{Sound, Row as Good}

@@ -1,11 +1,10 @@
 -- What a step answers, from what reducing the prolongation of its pair answered and what became of what was left.
-use Rattle.std.proofs.Common.{◌≡◌, ℕ, ◌-◌, ◌<◌, ◌≤◌, arith, length, Bool, ◌&&◌, ◌||◌, eqb, List, Ok, Err, Some, None, Option, MatchOption, Result, sym, subst, subst₂}
+use Rattle.std.proofs.Common.{◌≡◌, ℕ, ◌≤◌, length, Bool, ◌&&◌, ◌||◌, eqb, List, Ok, Err, Result, sym, subst}
 use lib.ListN.{length-map}
-use Rattle.monomial.specs.Monomial.{variable}
 use Rattle.monomial.specs.Division.{Within}
 use Rattle.polynomial.specs.Polynomial.{Poly}
 use Rattle.polynomial.specs.Check.{Fits, most_terms}
-use Rattle.involutive.specs.Reduction.{left, row}
+use Rattle.involutive.specs.Reduction.{left}
 use Rattle.involutive.specs.Sheet.{Setting, State, Chosen, prolonged, with_mark}
 use Rattle.involutive.specs.Answers.{ReducesTo, Steps, denied, marked_answer, appended_answer, step_wide, step_stuck, step_mark, step_full, step_row}
 use Rattle.involutive.proofs.Typing.{ground_of}

@@ -1,9 +1,9 @@
-use Rattle.std.proofs.Common.{◌≡◌, Err, None, Ok, vec_items, sym, ap, ◌∙◌, subst, arith, rules}
+use Rattle.std.proofs.Common.{◌≡◌, Err, vec_items, sym, ap, ◌∙◌, rules}
 use borrow.Author.Tests.{tests}
-use Rattle.polynomial.specs.Check.{fault, outcome}
+use Rattle.polynomial.specs.Check.{fault}
 use Rattle.polynomial.proofs.Checking.{refused, acceptable_from}
 use Rattle.reduction.specs.declared.refusal.Denied.TheVariants.{Polynomial}
-use Rattle.reduction.specs.Reducing.{unfit, fit, Reduced}
+use Rattle.reduction.specs.Reducing.{unfit, fit}
 use Rattle.reduction.proofs.Loading.{faultless, loaded}
 use Rattle.reduction.proofs.Renaming.{renamed, unrefused}
 use Rattle.reduction.proofs.rows.Rows.reduce.Goals as goal

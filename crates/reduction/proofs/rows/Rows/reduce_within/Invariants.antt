@@ -1,4 +1,4 @@
-use Rattle.std.proofs.Common.{◌≤◌, length, vec_items}
+use Rattle.std.proofs.Common.{vec_items}
 use Rattle.reduction.specs.Table.{table_of}
 use Rattle.reduction.proofs.Standing.{over, Stands}
 use Rattle.reduction.proofs.rows.Rows.reduce_within.Given as goal

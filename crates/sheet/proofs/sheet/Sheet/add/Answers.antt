@@ -1,4 +1,4 @@
-use Rattle.std.proofs.Common.{◌≡◌, length, Err, refl, vec_items, ap, ◌∙◌, rules}
+use Rattle.std.proofs.Common.{◌≡◌, length, Err, vec_items, ◌∙◌, rules}
 use borrow.Author.Tests.{tests}
 use lib.ListN.{length-map}
 use Rattle.calls.specs.Told.{told}

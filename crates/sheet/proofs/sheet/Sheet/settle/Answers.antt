@@ -5,10 +5,9 @@ use Rattle.monomial.specs.Monomial.{Wide}
 use Rattle.polynomial.specs.Polynomial.{leading}
 use Rattle.sheet.specs.Queueing.{Queued}
 use Rattle.sheet.specs.Rows.{lead_of}
-use Rattle.std.proofs.lemmas.Bool.{eqb-true}
 use Rattle.sheet.specs.Marks.{rows_of}
 use Rattle.sheet.proofs.Whole.{whole}
-use Rattle.sheet.proofs.Settlings.{rest_of, settle_nothing, settle_full, settle_appends, settle_stands, settle_leads, settles_sound}
+use Rattle.sheet.proofs.Settlings.{rest_of, settle_full, settle_appends, settle_stands, settle_leads, settles_sound}
 use Rattle.sheet.proofs.sheet.Sheet.settle.Goals as goal
 
 pub returns-in_err-append-clause-settles : goal.returns-in_err-append-clause-settles

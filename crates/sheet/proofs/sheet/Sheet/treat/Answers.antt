@@ -1,8 +1,7 @@
-use Rattle.std.proofs.Common.{◌≡◌, ◌<◌, Err, length, vec_items, vec_len, sym, ap, ap₂, ◌∙◌, subst, arith, rules}
+use Rattle.std.proofs.Common.{◌≡◌, ◌<◌, Err, length, vec_items, vec_len, ap, arith, rules}
 use Rattle.std.proofs.Math.Logic.{∥∥₁_map}
 use borrow.Author.Tests.{tests}
 use Rattle.calls.specs.Told.{told}
-use Rattle.involutive.specs.Sound.{Sound}
 use Rattle.involutive.proofs.Soundness
 use Rattle.reduction.specs.Reducing.{told as told_of}
 use Rattle.reduction.specs.Table.{setting}
@@ -12,7 +11,7 @@ use Rattle.sheet.specs.Queueing.{Passed}
 use Rattle.sheet.proofs.Closing.{chosen_some}
 use Rattle.sheet.proofs.Logging.{stays_sound}
 use Rattle.sheet.proofs.Passing.{unappended, passed_more}
-use Rattle.sheet.proofs.Present.{present, answer}
+use Rattle.sheet.proofs.Present.{answered}
 use Rattle.sheet.proofs.Treating.{by_rows, there, steps_unreduced, taken, left_of, treat_denied, treat_marked, treat_appended}
 use Rattle.sheet.proofs.Whole.{whole}
 use Rattle.sheet.proofs.sheet.Sheet.treat.Goals as goal
@@ -22,7 +21,7 @@ unwrap-requires g c =
     let x = c.args.self.now in
     let W = whole (g.met.F.Field.laws x.ring.field) (g.met.O.Order.laws x.ring.order) (g.met.D.Division.laws x.division) x.some x.few (vec_items x.table.rows) x.agrees in
     let C = chosen_some W (rows_of x.marks) x.queued c.args.at c.index-pick.result.now c.requires.passed c.requires.waits c.index-pick.ensures in
-    present _ _ _ c.reduce_prolongation.result c.reduce_prolongation.ensures (rw c.as_slice.ensures.value (there _ (vec_items x.table.rows) (rows_of x.marks) C))
+    c.reduce_prolongation.ensures.there.1 (rw c.as_slice.ensures.value (there _ (vec_items x.table.rows) (rows_of x.marks) C))
 
 pub returns-in_err-map_err-clause-treats : goal.returns-in_err-map_err-clause-treats
 returns-in_err-map_err-clause-treats g c =
@@ -34,7 +33,7 @@ returns-in_err-map_err-clause-treats g c =
     let p = e.2 in
     let t : told d ≡ told_of e.0 = search (rules, tests) in
     let y : c.from_residual.result ≡ Err d = search rules in
-    let A = by_rows c.as_slice.ensures.value (answer _ _ c.reduce_prolongation.result c.unwrap.result c.reduce_prolongation.ensures c.unwrap.ensures).1 in
+    let A = by_rows c.as_slice.ensures.value (answered _ c.reduce_prolongation.result c.unwrap.result c.reduce_prolongation.ensures.answer c.unwrap.ensures) in
     rw (y, t) (steps_unreduced C (rw e.1 at A))
 
 pub settle-requires : goal.settle-requires
@@ -42,7 +41,7 @@ settle-requires g c =
     let x = c.args.self.now in
     let W = whole (g.met.F.Field.laws x.ring.field) (g.met.O.Order.laws x.ring.order) (g.met.D.Division.laws x.division) x.some x.few (vec_items x.table.rows) x.agrees in
     let C = chosen_some W (rows_of x.marks) x.queued c.args.at c.index-pick.result.now c.requires.passed c.requires.waits c.index-pick.ensures in
-    let A = by_rows c.as_slice.ensures.value (answer _ _ c.reduce_prolongation.result c.unwrap.result c.reduce_prolongation.ensures c.unwrap.ensures).1 in
+    let A = by_rows c.as_slice.ensures.value (answered _ c.reduce_prolongation.result c.unwrap.result c.reduce_prolongation.ensures.answer c.unwrap.ensures) in
     let T = taken C (rw (unrefused c.unwrap.result c.map_err.result _ c.map_err.ensures.cases c.in_ok-map_err.field-0 c.in_ok-map_err.was) at A) in
     left_of (rows_of x.marks) W T
 
@@ -51,7 +50,7 @@ returns-in_err-settle-clause-treats g c =
     let x = c.args.self.now in
     let W = whole (g.met.F.Field.laws x.ring.field) (g.met.O.Order.laws x.ring.order) (g.met.D.Division.laws x.division) x.some x.few (vec_items x.table.rows) x.agrees in
     let C = chosen_some W (rows_of x.marks) x.queued c.args.at c.index-pick.result.now c.requires.passed c.requires.waits c.index-pick.ensures in
-    let A = by_rows c.as_slice.ensures.value (answer _ _ c.reduce_prolongation.result c.unwrap.result c.reduce_prolongation.ensures c.unwrap.ensures).1 in
+    let A = by_rows c.as_slice.ensures.value (answered _ c.reduce_prolongation.result c.unwrap.result c.reduce_prolongation.ensures.answer c.unwrap.ensures) in
     let T = taken C (rw (unrefused c.unwrap.result c.map_err.result _ c.map_err.ensures.cases c.in_ok-map_err.field-0 c.in_ok-map_err.was) at A) in
     let y = c.settle.new.self in
     let d = c.in_err-settle.field-0.0 in
@@ -63,7 +62,7 @@ returns-in-Nothing-clause-treats g c =
     let x = c.args.self.now in
     let W = whole (g.met.F.Field.laws x.ring.field) (g.met.O.Order.laws x.ring.order) (g.met.D.Division.laws x.division) x.some x.few (vec_items x.table.rows) x.agrees in
     let C = chosen_some W (rows_of x.marks) x.queued c.args.at c.index-pick.result.now c.requires.passed c.requires.waits c.index-pick.ensures in
-    let A = by_rows c.as_slice.ensures.value (answer _ _ c.reduce_prolongation.result c.unwrap.result c.reduce_prolongation.ensures c.unwrap.ensures).1 in
+    let A = by_rows c.as_slice.ensures.value (answered _ c.reduce_prolongation.result c.unwrap.result c.reduce_prolongation.ensures.answer c.unwrap.ensures) in
     let T = taken C (rw (unrefused c.unwrap.result c.map_err.result _ c.map_err.ensures.cases c.in_ok-map_err.field-0 c.in_ok-map_err.was) at A) in
     let y = c.settle.new.self in
     treat_marked T c.in_ok-settle.field-0 (vec_items y.table.rows) (rows_of y.marks) (rows_of c.mark.new.self) c.in-Nothing.is c.in_ok-settle.ensures.settles c.mark.ensures
@@ -73,7 +72,7 @@ returns-in-Appended-clause-treats g c =
     let x = c.args.self.now in
     let W = whole (g.met.F.Field.laws x.ring.field) (g.met.O.Order.laws x.ring.order) (g.met.D.Division.laws x.division) x.some x.few (vec_items x.table.rows) x.agrees in
     let C = chosen_some W (rows_of x.marks) x.queued c.args.at c.index-pick.result.now c.requires.passed c.requires.waits c.index-pick.ensures in
-    let A = by_rows c.as_slice.ensures.value (answer _ _ c.reduce_prolongation.result c.unwrap.result c.reduce_prolongation.ensures c.unwrap.ensures).1 in
+    let A = by_rows c.as_slice.ensures.value (answered _ c.reduce_prolongation.result c.unwrap.result c.reduce_prolongation.ensures.answer c.unwrap.ensures) in
     let T = taken C (rw (unrefused c.unwrap.result c.map_err.result _ c.map_err.ensures.cases c.in_ok-map_err.field-0 c.in_ok-map_err.was) at A) in
     let y = c.settle.new.self in
     treat_appended T c.in_ok-settle.field-0 (state_of (vec_items y.table.rows) (rows_of y.marks)) c.in-Appended.is c.in_ok-settle.ensures.settles
@@ -91,7 +90,7 @@ invariant_of-self-in-Nothing-2-clause-sound g c =
     let x = c.args.self.now in
     let W = whole (g.met.F.Field.laws x.ring.field) (g.met.O.Order.laws x.ring.order) (g.met.D.Division.laws x.division) x.some x.few (vec_items x.table.rows) x.agrees in
     let C = chosen_some W (rows_of x.marks) x.queued c.args.at c.index-pick.result.now c.requires.passed c.requires.waits c.index-pick.ensures in
-    let A = by_rows c.as_slice.ensures.value (answer _ _ c.reduce_prolongation.result c.unwrap.result c.reduce_prolongation.ensures c.unwrap.ensures).1 in
+    let A = by_rows c.as_slice.ensures.value (answered _ c.reduce_prolongation.result c.unwrap.result c.reduce_prolongation.ensures.answer c.unwrap.ensures) in
     let T = taken C (rw (unrefused c.unwrap.result c.map_err.result _ c.map_err.ensures.cases c.in_ok-map_err.field-0 c.in_ok-map_err.was) at A) in
     let y = c.settle.new.self in
     let Z = treat_marked T c.in_ok-settle.field-0 (vec_items y.table.rows) (rows_of y.marks) (rows_of c.mark.new.self) c.in-Nothing.is c.in_ok-settle.ensures.settles c.mark.ensures in
