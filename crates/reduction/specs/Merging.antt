@@ -1,6 +1,6 @@
 -- What the code of a multiple and of a subtraction computes on every value, sound or not, one term after another. The public
--- contract of `scale` uses the words on multiples (`image`, `all_small`, `NotMultiplied`), and no public contract uses another.
-use Rattle.std.specs.Prelude.{◌≡◌, ℕ, ◌+◌, ◌<◌, ◌≤◌, min, Bool, true, false, ◌&&◌, List, [], ◌∷◌, ◌++◌, length, Ok, Err, Result, nat_le, slice_index_or}
+-- contract of `scale` uses the words on multiples (`image`, `all_small`, `Multiplies`), and no public contract uses another.
+use Rattle.std.specs.Prelude.{◌≡◌, ℕ, ◌+◌, ◌<◌, ◌≤◌, min, Bool, true, false, ◌&&◌, List, [], ◌∷◌, ◌++◌, map, length, Ok, Err, Result, nat_le, slice_index_or}
 use Rattle.std.specs.declared.cmp.Ordering.TheVariants.{Less, Equal, Greater}
 use Rattle.std.specs.List.{list_all}
 use Rattle.std.specs.Option.{unwrap_or}
@@ -8,7 +8,7 @@ use Rattle.field.specs.Field.{FieldMeaning, code, codes, checked}
 use Rattle.monomial.specs.Order.{Compare}
 use Rattle.polynomial.specs.declared.term.Term.{Term}
 use Rattle.polynomial.specs.Polynomial.{Poly, term, exponents}
-use Rattle.polynomial.specs.Check.{largest_exponent}
+use Rattle.polynomial.specs.Check.{largest_exponent, most_terms}
 use Rattle.reduction.specs.declared.refusal.Reason.{Reason}
 use Rattle.reduction.specs.declared.refusal.Reason.TheVariants.{Wide, Long}
 
@@ -66,7 +66,9 @@ module _ (F : FieldMeaning) (O : Compare) where
 abbrev pub Meets : FieldMeaning → Compare → Term → Poly → Poly → Poly → Type 0
 Meets F O s h part rest = (f g : Poly) → Sums F O rest f g → Sums F O h (s ∷ f) (part ++ g)
 
--- why the terms f are not multiplied by the monomial a, whatever they are: they are more than 40, or else an exponent is above 40
-abbrev pub NotMultiplied : Poly → List ℕ → Reason → Type 0
-NotMultiplied f a Long = 40 < length f
-NotMultiplied f a Wide = (length f ≤ 40) × (all_small a f ≡ false)
+-- what multiplying the terms f by c x^a gives, whatever they are, in a buffer that held `old`: its terms one by one; or nothing
+-- changes, since f has more than 40 terms, or else since an exponent of the multiple is above 40
+abbrev pub Multiplies : FieldMeaning → ℕ → List ℕ → Poly → Poly → Result (Unit {0}) Reason → Poly → Type 0
+Multiplies F c a f old (Ok u) new = (length f ≤ most_terms) × (all_small a f ≡ true) × (new ≡ map (image F c a) f)
+Multiplies F c a f old (Err Long) new = (most_terms < length f) × (new ≡ old)
+Multiplies F c a f old (Err Wide) new = (length f ≤ most_terms) × (all_small a f ≡ false) × (new ≡ old)

@@ -1,9 +1,9 @@
 // Multiplying a polynomial by a coefficient and a monomial.
-ghost use Rattle.std.specs.Prelude.{◌≡◌, ℕ, ◌<◌, ◌≤◌, true, length, map, MatchResult};
+ghost use Rattle.std.specs.Prelude.{◌≡◌, ℕ, ◌<◌, length, MatchResult};
 ghost use Rattle.polynomial.specs.Polynomial.{Over, exponents as exponents_of};
 ghost use Rattle.polynomial.specs.Check.{Fits};
 ghost use Rattle.involutive.specs.Value.{scaled};
-ghost use Rattle.reduction.specs.Merging.{image as imaged, all_small, NotMultiplied};
+ghost use Rattle.reduction.specs.Merging.{Multiplies};
 ghost use Rattle.reduction.specs.Subtraction.{Unscaled};
 
 use crate::buffer::Buffer;
@@ -23,7 +23,7 @@ pub fn scale<F: Field>(
     out: &mut Buffer,
 ) -> Result<(), Reason>
     ensures all { MatchResult result (λ _. length out.new.terms.items ≡ length terms.now) (λ _. out.new.terms.items ≡ out.old.terms.items) }
-    ensures exact { MatchResult result (λ _. (length terms.now ≤ 40) × (all_small (exponents_of factor.now) terms.now ≡ true) × (out.new.terms.items ≡ map (imaged (F.Field.meaning field.now) factor.now.coefficient (exponents_of factor.now)) terms.now)) (NotMultiplied terms.now (exponents_of factor.now)) }
+    ensures exact { Multiplies (F.Field.meaning field.now) factor.now.coefficient (exponents_of factor.now) terms.now out.old.terms.items result out.new.terms.items }
     ensures value { (n : ℕ) → Over (F.Field.meaning field.now) n terms.now → factor.now.coefficient < (F.Field.meaning field.now).q → MatchResult result (λ _. Fits (scaled (F.Field.meaning field.now) factor.now.coefficient (exponents_of factor.now) terms.now) × (out.new.terms.items ≡ scaled (F.Field.meaning field.now) factor.now.coefficient (exponents_of factor.now) terms.now)) (Unscaled terms.now (scaled (F.Field.meaning field.now) factor.now.coefficient (exponents_of factor.now) terms.now)) }
 {
     if terms.len() > MOST_TERMS {
