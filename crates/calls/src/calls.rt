@@ -12,9 +12,10 @@ use crate::answer::{Copied, Step, Verdict};
 use crate::refusal::Refusal;
 use polynomial::term::Term;
 
-// Each call promises, on every value, the answer, the state and the buffer that the definitions give, and that the call enters
-// the log; that the setting stays; and that a refused call leaves the state and the lent buffer as they were. What a sheet is
-// made of keeps its laws, and its state is sound: both hold of every value that there is of the type.
+// Each call promises, on every value, the answer, the state and the buffer that the definitions give, and that the setting stays.
+// What follows from the answer and is asked for most stands in clauses of its own: that a refused call leaves the state and the lent
+// buffer as they were, and that the call enters the log. What a sheet is made of keeps its laws, and its state is sound: both hold of
+// every value that there is of the type.
 pub trait Calls {
     // What the sheet is made of, and what it holds.
     ghost setting: { Self → Setting };

@@ -56,7 +56,7 @@ module _ (S : Setting) (W : Lawful S) where
 
   proper : {calls : List Call} (x : Made S calls) → ((k : ℕ) → Within k (length x.state.rows) → leading (row x.state.rows k) ≡ one → ⊥) → Member S.field S.variables x.generators unit → ⊥
   proper {calls} x h m =
-      let u = (Verdicts.verdict S W x.state x.sound x.closed).0 (((complete S W).ideal calls x.state x.generators x.after unit (Verdicts.unit_written S W).over).1 m) in
+      let u = (Verdicts.sound_verdict S W x.state x.sound x.closed).0 (((complete S W).ideal calls x.state x.generators x.after unit (Verdicts.unit_written S W).over).1 m) in
       h u.k u.within u.leads
 
   abbrev proper? : (calls : List Call) (f g h : Poly) → Option (Proper S calls)

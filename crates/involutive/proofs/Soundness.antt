@@ -74,7 +74,7 @@ module _ (S : Setting) (W : Lawful S) where
   first_term (t ∷ f) r = (f, λ i. record { coefficient = r.monic i; monomial = record { exponents = exponents t } } ∷ f)
 
   -- the leading monomial of what is irreducible is no row's
-  fresh : (T : Table) (t : Term) (g : Poly) → Irreducible F O S.division N T (t ∷ g) → (k : ℕ) → Within k (length T) → leading (row T k) ≡ exponents t → ⊥
+  pub fresh : (T : Table) (t : Term) (g : Poly) → Irreducible F O S.division N T (t ∷ g) → (k : ℕ) → Within k (length T) → leading (row T k) ≡ exponents t → ⊥
   fresh T t g i k v e = i t (Memᴰ.head refl) k (record {
     within = rw (length-map T leading) v;
     divides = rw a (λ u. omega arith);

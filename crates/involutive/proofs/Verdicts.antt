@@ -1,11 +1,14 @@
 -- The verdict of a closed sheet: 1 is a member exactly when a row's leading monomial is 1.
-use Rattle.std.proofs.Common.{◌≡◌, ℕ, suc, ◌-◌, ◌≤◌, ◌↔◌, List, [], ◌∷◌, length, get_or, refl, subst, arith}
+use Rattle.std.proofs.Common.{◌≡◌, ℕ, zero, suc, ◌-◌, ◌≤◌, ◌↔◌, ◌⊎◌, true, List, [], ◌∷◌, length, get_or, refl, ap, ◌∙◌, subst, inl, inr, ⊎_elim, arith}
 use mathlib.Core.List.Memᴰ
 use mathlib.Core.List.{Memᴰ}
 use lib.ListN.{length-map}
+use Rattle.std.proofs.Math.Logic.{∥∥₁_elim}
+use Rattle.std.proofs.Props.{props}
+use Rattle.std.proofs.lemmas.Bool.{both_ways, cases_Bool, cases_eq}
 use Rattle.std.proofs.lemmas.List.{get_or-map}
 use Rattle.polynomial.specs.declared.term.Term.{Term}
-use Rattle.monomial.specs.Monomial.{In, Wide, one, Divides}
+use Rattle.monomial.specs.Monomial.{In, Wide, one, same, Divides}
 use Rattle.monomial.specs.Order.{Under}
 use Rattle.monomial.specs.Division.{Within}
 use Rattle.polynomial.specs.Polynomial.{Poly, term, exponents, Written, Falling, single, more, leading}
@@ -63,8 +66,8 @@ module _ (S : Setting) (W : Lawful S) where
           fall : {h s : Term} {t : Poly} → Falling O (h ∷ s ∷ t) → Under O (exponents s) (exponents h)
           fall (more x y) = x
 
-  pub verdict : (s : State) → Sound S s → Closed S s → Member F N s.rows unit ↔ UnitRow s
-  verdict s I c = (
+  pub sound_verdict : (s : State) → Sound S s → Closed S s → Member F N s.rows unit ↔ UnitRow s
+  sound_verdict s I c = (
     λ m.
         let r = Sheets.lead_divisor S W s I c (term 1 one) [] unit_written m in
         let w : Within r.0 (length s.rows) = rw (length-map s.rows leading) at r.1.within in
@@ -81,4 +84,28 @@ module _ (S : Setting) (W : Lawful S) where
       impossible c (subst (Member F N s.rows) (monic_unit (row s.rows u.k) (each _ h) u.leads) (Ideals.member_generator ground s.rows (λ p k. (each p k).acceptable.written.over) (row s.rows u.k) h))
 
   pub judges_none : (s : State) → Sound S s → Closed S s → ((k : ℕ) → Within k (length s.rows) → leading (row s.rows k) ≡ one → ⊥) → Judges S s (verdict_answer 0)
-  judges_none s I c n = possible c (λ m. let u = (verdict s I c).0 m in n u.k u.within u.leads)
+  judges_none s I c n = possible c (λ m. let u = (sound_verdict s I c).0 m in n u.k u.within u.leads)
+
+  -- a row among the first n whose leading monomial is 1, or that there is none
+  find_unit : (s : State) (n : ℕ) → n ≤ length s.rows → UnitRow s ⊎ ((k : ℕ) → Within k n → leading (row s.rows k) ≡ one → ⊥)
+  find_unit s zero l = inr (λ k w e. absurd (omega (arith, w.0, w.1)))
+  find_unit s (suc n) l =
+      let m = leading (row s.rows (suc n)) in
+      ⊎_elim inl (λ none. ⊎_elim
+      (λ e. inl (record { k = suc n; within = (omega arith, l); leads = Monomials.same_true m one e }))
+      (λ e. inr (λ k w d. ⊎_elim
+      (λ q. both_ways (same m one) e (subst (λ j. same (leading (row s.rows j)) one ≡ true) q (ap (λ x. same x one) d ∙ Monomials.same_refl one)))
+      (λ q. none k (w.0, omega (arith, w.1, q)) d)
+      (cases_eq k (suc n))))
+      (cases_Bool (same m one)))
+      (find_unit s n (omega arith))
+
+  -- that there is a proof of soundness serves: what is taken from it are equations, bounds and contradictions
+  pub verdict : (s : State) → ∥ Sound S s ∥₁ → Closed S s → Member F N s.rows unit ↔ UnitRow s
+  verdict s I c = (
+    λ m. ⊎_elim (λ u. u) (λ none. absurd (∥∥₁_elim I (hlevel props) (λ A. let u = (sound_verdict s A c).0 m in none u.k u.within u.leads))) (find_unit s (length s.rows) (omega arith)),
+    λ u.
+        let h : Memᴰ (row s.rows u.k) s.rows = Lists.entry_member [] s.rows (u.k - 1) (omega (arith, u.within.0, u.within.1)) in
+        let is : row s.rows u.k ≡ unit = ∥∥₁_elim I (hlevel props) (λ A. monic_unit (row s.rows u.k) (A.each _ h) u.leads) in
+        subst (Member F N s.rows) is (Ideals.member_generator ground s.rows (λ p k. ∥∥₁_elim I (hlevel props) (λ A. (A.each p k).acceptable.written.over)) (row s.rows u.k) h),
+  )

@@ -15,10 +15,6 @@ use Rattle.reduction.proofs.Meeting.{copied}
 abbrev pub Extended : {E : Type 0} → Poly → Poly → ℕ → Result (Unit {0}) E → Poly → Type 0
 Extended out part room res out' = MatchResult res (λ _. (length out + length part ≤ room) × (out' ≡ out ++ part)) (λ _. (room < length out + length part) × (out' ≡ out))
 
-pub extend_fits : {E : Type 0} (out part : Poly) (room : ℕ) (res : Result (Unit {0}) E) (out' : Poly) → length out ≤ room → Extended out part room res out' → length out' ≤ room
-extend_fits out part room (Ok u) out' l e = omega (arith, e.0, ap length e.1, length-append out part)
-extend_fits out part room (Err x) out' l e = omega (arith, ap length e.1)
-
 -- where there is room for all
 pub extend_all : {E : Type 0} (out part : Poly) (room : ℕ) (res : Result (Unit {0}) E) (out' : Poly) → length out + length part ≤ room → Extended out part room res out' → out' ≡ out ++ part
 extend_all out part room (Ok u) out' l e = e.1

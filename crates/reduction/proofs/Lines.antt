@@ -1,10 +1,11 @@
 -- The rows of a sound table by their numbers, and the terms behind their first ones.
-use Rattle.std.proofs.Common.{◌≡◌, ℕ, ◌-◌, ◌<◌, ◌≤◌, List, [], ◌∷◌, length, drop, get_or, sym, subst, arith}
+use Rattle.std.proofs.Common.{◌≡◌, ℕ, ◌-◌, ◌<◌, ◌≤◌, List, [], ◌∷◌, length, drop, get_or, refl, sym, subst, arith}
 use mathlib.Core.List.Memᴰ
 use Rattle.field.specs.Field.{FieldMeaning}
 use Rattle.monomial.specs.Order.{Compare}
 use Rattle.monomial.specs.Division.{Within}
-use Rattle.polynomial.specs.Polynomial.{Poly}
+use Rattle.monomial.specs.Monomial.{Wide}
+use Rattle.polynomial.specs.Polynomial.{Poly, leading}
 use Rattle.polynomial.specs.Check.{Acceptable}
 use Rattle.involutive.specs.Reduction.{row}
 use Rattle.involutive.specs.Sheet.{Setting}
@@ -21,7 +22,11 @@ pub good_at : (S : Setting) (rows : List Row) → SoundTable S rows → (k : ℕ
 good_at S rows I k w =
     let h : k - 1 < length rows = omega (arith, w) in
     let x = element rows (k - 1) h in
-    subst (Good S) (sym (row_at rows k w x.0 x.1)) (I (k - 1) x.0 h x.1).good
+    subst (Good S) (sym (row_at rows k w x.0 x.1)) (I.each (k - 1) x.0 h x.1).good
+
+pub leading_wide : {S : Setting} (f : Poly) → Good S f → Wide (leading f)
+leading_wide [] a = refl
+leading_wide (t ∷ f) a = (a.acceptable.written.over t (Memᴰ.head refl)).1.wide
 
 pub tail_of : {F : FieldMeaning} {O : Compare} {n : ℕ} (f : Poly) → Acceptable F O n f → Acceptable F O n (drop 1 f) × (length (drop 1 f) ≤ 39)
 tail_of [] a = (a, omega arith)

@@ -23,7 +23,7 @@ pub loaded : {E : Type 0} (f old new : Poly) (r : Result (Unit {0}) E) → lengt
 loaded f old new (Ok u) l e = e.1
 loaded f old new (Err x) l e = absurd (let k = e.0 in omega arith)
 
--- the terms behind the first of row k, of which `xs` are all that were read
+-- `new` has the terms behind the first of row k, and they can be reduced
 pub record Tail (S : Setting) (rows : List Row) (k : ℕ) (new : Poly) : Type 0 where
   pub is : new ≡ drop 1 (row (table_of rows) k)
   pub acceptable : Acceptable S.field S.order S.variables (drop 1 (row (table_of rows) k))

@@ -33,7 +33,7 @@ module _ (F : FieldMeaning) (O : Compare) (D : Split) (n : ℕ) (rows : List Row
       h = omega (arith, w)
 
       good : Rattle.involutive.specs.Sound.Row (setting F O D n) (terms_of it)
-      good = (I (k - 1) it h e).good
+      good = (I.each (k - 1) it h e).good
 
       t : read ≡ terms_of it
       t = q ∙ ap terms_of (sym e)

@@ -49,7 +49,7 @@ module _ (G : Ground) (D : Split) (rows : List Row) (sound : SoundTable (setting
   -- row i, counted from 0
   module _ (i : ℕ) (r : Row) (inside : i < length rows) (at : r ≡ get_or rows i r) where
     abbrev S : SoundRow (setting F O D n) T i r
-    S = sound i r inside at
+    S = sound.each i r inside at
 
     row_is : row T (suc i) ≡ terms_of r
     row_is = subst (λ j. get_or T j [] ≡ terms_of r) (sym (low i)) (get_or-map terms_of rows i r [] inside ∙ ap terms_of (sym at))
@@ -112,7 +112,7 @@ module _ (G : Ground) (D : Split) (rows : List Row) (sound : SoundTable (setting
     front = extend_all fine (take i rest) most res fine' (front_fits st (take i rest) (omega (arith, length-take i rest)) most is_most) extended
 
     abbrev at_row : SoundRow (setting F O D n) T k r
-    at_row = sound k r found.2.inside is_r
+    at_row = sound.each k r found.2.inside is_r
 
     cut : rest ≡ take i rest ++ t ∷ drop (i + 1) rest
     cut = sym (take-append-drop i rest) ∙ ap (λ x. take i rest ++ x) (drop_more rest i (term 0 []) found.0)

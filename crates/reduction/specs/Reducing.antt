@@ -2,7 +2,7 @@
 use Rattle.std.specs.Prelude.{◌≡◌, ℕ, [], Some, None, Ok, Err, OnErr, Result, vec_items}
 use Rattle.monomial.specs.Monomial.{variable}
 use Rattle.polynomial.specs.declared.refusal.Refusal.{Refusal as Unfit}
-use Rattle.polynomial.specs.Polynomial.{Poly}
+use Rattle.polynomial.specs.Polynomial.{Poly, Written}
 use Rattle.polynomial.specs.Check.{Fits, most_terms}
 use Rattle.involutive.specs.Value.{scaled}
 use Rattle.involutive.specs.Reduction.{Table, row, Refusal, refuse, Outcome, left, refused, Reduces}
@@ -19,7 +19,7 @@ abbrev pub number : Reason → ℕ
 number TooWide = 9
 number TooLong = 10
 
--- its number and place
+-- why a polynomial is not reduced, by number and place
 abbrev pub told : Denied → Refusal
 told (Polynomial unfit) = fault_refusal unfit
 told (Wide k) = refuse 9 k
@@ -49,6 +49,11 @@ module _ (S : Setting) (T : Table) where
   pub data ProlongsAndReduces (k v : ℕ) : Result (Unit {0}) Denied → Poly → Type 0 where
     too_wide : (Fits (prolongation k v) → ⊥) → ProlongsAndReduces k v (Err (Wide k)) []
     small : {r : Result (Unit {0}) Denied} {g : Poly} → Fits (prolongation k v) → Reduced most_terms (prolongation k v) r g → ProlongsAndReduces k v r g
+
+  -- reducing by the table comes to one thing: what is left is one, or the refusal is
+  abbrev pub OneOutcome : Type 0
+  OneOutcome = (room : ℕ) (h : Poly) (o p : Outcome) → Written S.field S.order S.variables h →
+      Reduces S.field S.order S.division S.variables T room h o → Reduces S.field S.order S.division S.variables T room h p → o ≡ p
 
 -- the memory holds no term
 abbrev pub IsUnused : Work → Type 0

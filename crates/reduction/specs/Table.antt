@@ -3,7 +3,7 @@ use Rattle.std.specs.Prelude.{◌≡◌, ℕ, suc, ◌-◌, ◌<◌, false, List
 use Rattle.field.specs.Field.{FieldMeaning}
 use Rattle.monomial.specs.Monomial.{width}
 use Rattle.monomial.specs.Order.{Compare}
-use Rattle.monomial.specs.Division.{Split, Within}
+use Rattle.monomial.specs.Division.{Split, Within, Distinct}
 use Rattle.polynomial.specs.Polynomial.{Poly, leading}
 use Rattle.involutive.specs.Reduction.{Table, leaders}
 use Rattle.involutive.specs.Sheet.{Setting}
@@ -26,5 +26,7 @@ pub record SoundRow (S : Setting) (T : Table) (i : ℕ) (r : Row) : Type 0 where
   pub lead : r.lead.monomial.exponents ≡ leading (terms_of r)
   pub flags : (v : ℕ) → Within v width → S.division (leaders T) (suc i) v ≡ Some (slice_index_or r.lead.multiplicative (v - 1) false)
 
-abbrev pub SoundTable : Setting → List Row → Type 0
-SoundTable S rows = (i : ℕ) (r : Row) → i < length rows → r ≡ slice_index_or rows i r → SoundRow S (table_of rows) i r
+-- each row is sound, and no two rows share a leading monomial
+pub record SoundTable (S : Setting) (rows : List Row) : Type 0 where
+  pub each : (i : ℕ) (r : Row) → i < length rows → r ≡ slice_index_or rows i r → SoundRow S (table_of rows) i r
+  pub distinct : Distinct (leaders (table_of rows))

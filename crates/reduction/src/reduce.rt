@@ -40,14 +40,7 @@ fn cancel<F: Field, O: Order>(
         coefficient: term.coefficient,
         monomial: quotient(&term.monomial, &row.lead.monomial),
     };
-    subtract(
-        ring,
-        behind,
-        &row.terms.as_slice()[1..],
-        &factor,
-        room.terms,
-        out,
-    )
+    subtract(ring, behind, &row.terms.as_slice()[1..], &factor, room, out)
 }
 
 // The memory that reducing needs: what is still to be reduced, what is done, and room for the differences. Behind a call

@@ -5,7 +5,7 @@ ghost use Rattle.monomial.specs.Division.{Within};
 ghost use Rattle.polynomial.specs.Check.{most_terms};
 ghost use Rattle.involutive.specs.Reduction.{row as line};
 ghost use Rattle.reduction.specs.Agreement.{agreement_prop};
-ghost use Rattle.reduction.specs.Reducing.{Reduced, ChecksAndReduces, ProlongsAndReduces};
+ghost use Rattle.reduction.specs.Reducing.{Reduced, ChecksAndReduces, ProlongsAndReduces, OneOutcome};
 ghost use Rattle.reduction.specs.Table.{setting, table_of, SoundTable};
 
 use crate::reduce::Work;
@@ -19,13 +19,17 @@ use polynomial::check::MOST_TERMS;
 use polynomial::ring::Ring;
 use polynomial::term::Term;
 
-// What the rows keep beside their terms agrees with these terms, the ring and the division. The division is here for
-// that alone: only a new row has it asked. Rows and variables count from 1.
+// Rows that no sheet could tell from its own: each is a polynomial over the ring within the limits, with leading coefficient 1;
+// no two share a leading monomial; and what they keep beside their terms agrees with these, the ring and the division. The division
+// is here for that alone: only a new row has it asked. Rows and variables count from 1.
+//
+// A sheet puts them together where it needs them, since a method of the sheet would lend its buffers too.
 #[derive(Drop)]
 pub struct Rows<'a, F: Field, O: Order, D: Division> {
     pub ring: &'a Ring<F, O>,
     pub division: &'a D,
     pub rows: &'a [Row],
+    ghost some: { 1 ≤ ring.now.variables },
     ghost few: { ring.now.variables ≤ 6 },
     ghost agrees: { SoundTable (setting (F.Field.meaning ring.now.field) (O.Order.meaning ring.now.order) (D.Division.meaning division.now) ring.now.variables) rows.now } by { agreement_prop _ _ },
 }
@@ -44,8 +48,8 @@ impl<F: Field, O: Order, D: Division> Rows<'_, F, O, D> {
         self.reduce_within(Room::ALL, work)
     }
 
-    // Reduces a row times a variable, with room for 40 terms; or tells, changing nothing, that there is no such row or
-    // variable.
+    // Reduces a row times a variable, with room for 40 terms; or tells that there is no such row or variable, and
+    // `work.done` stays.
     pub fn reduce_prolongation(
         &self,
         row: usize,
@@ -76,7 +80,7 @@ impl<F: Field, O: Order, D: Division> Rows<'_, F, O, D> {
     }
 
     // Reduces the terms behind the first one of a row, with room for 39, so that with its first term the row has at most 40; or
-    // tells, changing nothing, that there is no such row.
+    // tells that there is no such row, and `work.done` stays.
     pub fn reduce_tail(&self, row: usize, work: &mut Work) -> Option<Result<(), Denied>>
         ensures there { Decides (is_some result) (Within row (length self.now.rows.now)) }
         ensures kept { IfNone result (work.new.done.terms.items ≡ work.old.done.terms.items) }
@@ -91,4 +95,10 @@ impl<F: Field, O: Order, D: Division> Rows<'_, F, O, D> {
         let _ = work.load(&self.rows[row - 1].terms.as_slice()[1..]);
         Some(self.reduce_within(Room::new(MOST_TERMS - 1), work))
     }
+
+    // Reducing by these rows comes to one thing, so the clauses above allow one answer, and one polynomial that is left.
+    // There is nothing to run.
+    pub fn one_outcome(&self)
+        ensures { OneOutcome (setting (F.Field.meaning self.now.ring.now.field) (O.Order.meaning self.now.ring.now.order) (D.Division.meaning self.now.division.now) self.now.ring.now.variables) (table_of self.now.rows.now) }
+    {}
 }

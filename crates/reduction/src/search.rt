@@ -9,7 +9,7 @@ use polynomial::term::Term;
 // counted from 0. In falling order the first such term is the greatest. A place of the monomials is at once one of the
 // list of variables, so the innermost loop counts places. The search over terms, rows and variables is left by a label:
 // no flag has to be carried out of the inner loops.
-pub fn find_reducible(table: &[Row], terms: &[Term]) -> Option<(usize, usize)>
+pub(crate) fn find_reducible(table: &[Row], terms: &[Term]) -> Option<(usize, usize)>
     ensures { Finds table.now terms.now result }
 {
     let mut found = None;

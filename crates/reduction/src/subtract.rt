@@ -1,8 +1,7 @@
 // Subtracting a multiple of a row: one text for every field and order.
-ghost use Rattle.std.specs.Prelude.{◌≡◌, ℕ, ◌<◌, min};
+ghost use Rattle.std.specs.Prelude.{◌≡◌, ℕ, ◌<◌};
 ghost use Rattle.monomial.specs.Monomial.{In, quotient as divided};
 ghost use Rattle.polynomial.specs.Polynomial.{Written, exponents as exponents_of};
-ghost use Rattle.polynomial.specs.Check.{most_terms};
 ghost use Rattle.involutive.specs.Value.{scaled};
 ghost use Rattle.reduction.specs.Subtraction.{Subtracted};
 
@@ -27,16 +26,16 @@ pub(crate) fn quotient(m: &Monomial, u: &Monomial) -> Monomial
 }
 
 // The terms less the factor times a row into the buffer, unless an exponent of the multiple is above 40, or else the
-// difference has more than `room` terms. There is never room for more than 40.
-pub fn subtract<F: Field, O: Order>(
+// difference has more terms than there is room for.
+pub(crate) fn subtract<F: Field, O: Order>(
     ring: &Ring<F, O>,
     terms: &[Term],
     row: &[Term],
     factor: &Term,
-    room: usize,
+    room: Room,
     out: &mut Buffer,
 ) -> Result<(), Reason>
-    ensures { (n : ℕ) → Written (F.Field.meaning ring.now.field) (O.Order.meaning ring.now.order) n terms.now → Written (F.Field.meaning ring.now.field) (O.Order.meaning ring.now.order) n row.now → 0 < factor.now.coefficient → factor.now.coefficient < (F.Field.meaning ring.now.field).q → In n (exponents_of factor.now) → Subtracted (F.Field.meaning ring.now.field) (O.Order.meaning ring.now.order) n (min room most_terms) terms.now (scaled (F.Field.meaning ring.now.field) factor.now.coefficient (exponents_of factor.now) row.now) result out.new.terms.items }
+    ensures { (n : ℕ) → Written (F.Field.meaning ring.now.field) (O.Order.meaning ring.now.order) n terms.now → Written (F.Field.meaning ring.now.field) (O.Order.meaning ring.now.order) n row.now → 0 < factor.now.coefficient → factor.now.coefficient < (F.Field.meaning ring.now.field).q → In n (exponents_of factor.now) → Subtracted (F.Field.meaning ring.now.field) (O.Order.meaning ring.now.order) n room.terms terms.now (scaled (F.Field.meaning ring.now.field) factor.now.coefficient (exponents_of factor.now) row.now) result out.new.terms.items }
 {
     if !fits(&factor.monomial, row) {
         return Err(Reason::Wide);
@@ -45,6 +44,6 @@ pub fn subtract<F: Field, O: Order>(
         coefficient: ring.field.neg(factor.coefficient).unwrap_or(0),
         monomial: factor.monomial,
     };
-    add_multiple(ring, terms, row, &negative, Room::new(room), out)?;
+    add_multiple(ring, terms, row, &negative, room, out)?;
     Ok(())
 }

@@ -32,8 +32,8 @@ fn write(heap: Global, input: &[u8]) -> Result<Vec<u8>, AllocError>
 
 // The transcript of a command file, of which the first 60,000 bytes are read; only want of memory keeps it from being made. The
 // other clauses are what a reader of a transcript may rely on: a file has one transcript at most; tables are complete; the
-// verdict tells whether 1 lies in the ideal; every log leaves a sound sheet; each call has one answer; the worked cases come
-// out as listed; and what all this speaks of exists.
+// verdict tells whether 1 lies in the ideal; every log leaves a sound sheet; each call has one answer; a log determines its sheet
+// and the generators that were accepted; the worked cases come out as listed; and what all this speaks of exists.
 pub fn transcript(heap: Global, input: &[u8]) -> Result<Vec<u8>, AllocError>
     ensures transcript { IfOk result (λ out. Transcript (take most_input input.now) out.items) }
     ensures one { OneTranscript }

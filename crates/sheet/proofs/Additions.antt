@@ -35,7 +35,7 @@ pub taken : {S : Setting} {T : Table} {f g : Poly} → ChecksAndReduces S T f (O
 taken (fit e R) = record { faultless = e; reduced = R.comes }
 
 pub left_of : {S : Setting} {T : Table} {f g : Poly} → Lawful S → Taken S T f g → Left S T g
-left_of {S} {f = f} W K = record { whole = f; acceptable = Soundness.no_fault S W f K.faultless; reduced = K.reduced }
+left_of {S} {f = f} W K = let a = Soundness.reduces_acceptable S W K.reduced (Soundness.no_fault S W f K.faultless) in record { acceptable = a.0; irreducible = a.1 }
 
 adds_rows : {S : Setting} {s s' : State} {f g : Poly} {x : Settled} → first_fault S f ≡ None → ReducesTo S s most_terms f (left g) → Settles S s g (Ok x) s' → Adds S s f (rows_now (length s'.rows)) s'
 adds_rows e R nothing = add_zero e R

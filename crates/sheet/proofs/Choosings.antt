@@ -18,6 +18,7 @@ use Rattle.sheet.specs.declared.queue.Pick.{Pick}
 use Rattle.sheet.specs.Marks.{marked, state_of}
 use Rattle.sheet.specs.Queueing.{capped_raise, no_lead, lead_at, pick_at, is_open, opens, Passed, Waits, in_turn, has, Queued}
 use Rattle.sheet.specs.Rows.{lead_of}
+use Rattle.reduction.proofs.Lines.{leading_wide}
 use Rattle.reduction.proofs.Mapping.{map_at, element}
 
 some_same : {a b : Bool} → Some a ≡ Some b → a ≡ b
@@ -50,10 +51,6 @@ raise_times m v w b s =
     ap (set m (v - 1)) c ∙ sym (times_one width (v - 1) m w (omega (arith, b)))
 
 -- ---- the leading monomial of a row
-
-pub leading_wide : {S : Setting} (f : Poly) → Good S f → Wide (leading f)
-leading_wide [] a = refl
-leading_wide (t ∷ f) a = (a.acceptable.written.over t (Memᴰ.head refl)).1.wide
 
 leading_small : {S : Setting} (f : Poly) (i : ℕ) → i < width → Good S f → get_or (leading f) i 0 ≤ largest_exponent
 leading_small [] i h a = let z : get_or one i 0 ≡ 0 = get_or-replicate width i 0 0 h in omega (arith, z)
@@ -101,7 +98,7 @@ module _ (S : Setting) (Q : OrderLaws S.order) (few : S.variables ≤ width) (ro
   at j w =
       let h : j - 1 < N = omega (arith, w) in
       let x = element rows (j - 1) h in
-      record { it = x.0; is_lead = map_at (λ r. r.lead) rows (j - 1) x.0 no_lead h x.1; is_member = map_at lead_of rows (j - 1) x.0 [] h x.1; is_row = map_at terms_of rows (j - 1) x.0 [] h x.1; sound = I (j - 1) x.0 h x.1 }
+      record { it = x.0; is_lead = map_at (λ r. r.lead) rows (j - 1) x.0 no_lead h x.1; is_member = map_at lead_of rows (j - 1) x.0 [] h x.1; is_row = map_at terms_of rows (j - 1) x.0 [] h x.1; sound = I.each (j - 1) x.0 h x.1 }
 
   good : (j : ℕ) → Within j N → Good S (row (table_of rows) j)
   good j w = let a = at j w in subst (Good S) (sym a.is_row) a.sound.good

@@ -4,15 +4,10 @@ use lib.ListN.{length-map}
 use Rattle.std.proofs.lemmas.List.{get_or_read}
 use Rattle.std.proofs.lemmas.Bool.{both_ways, or_cases}
 use Rattle.monomial.specs.Monomial.{one, same}
-use Rattle.polynomial.specs.Polynomial.{Poly, leading}
+use Rattle.polynomial.specs.Polynomial.{leading}
 use Rattle.involutive.specs.Sheet.{Setting, State, Closed, Chosen}
-use Rattle.involutive.specs.Sound.{Sound, Row as Good}
-use mathlib.Core.List.Memᴰ
-use mathlib.Core.List.{Memᴰ}
-use Rattle.std.proofs.Math.Logic.{∥∥₁_elim}
-use Rattle.std.proofs.Props.{props}
-use Rattle.monomial.specs.Division.{Distinct}
-use Rattle.involutive.specs.Answers.{Judges, verdict_answer, possible, FairCopies}
+use Rattle.involutive.specs.Sound.{Sound}
+use Rattle.involutive.specs.Answers.{Judges, verdict_answer, impossible, possible, FairCopies}
 use Rattle.calls.specs.declared.refusal.Refusal.{Refusal}
 use Rattle.calls.specs.declared.answer.Copied.{Copied}
 use Rattle.calls.specs.Told.{copied}
@@ -75,33 +70,29 @@ module _ {S : Setting} {rows : List Row} (W : Whole S rows) (xs : List (List Boo
   rows_there : length (table_of rows) ≡ length rows
   rows_there = length-map rows terms_of
 
-  -- each row of the table is a row of a sheet
-  good_rows : (rows : List Row) → ((i : ℕ) (r : Row) → i < length rows → r ≡ get_or rows i r → Good S (terms_of r)) → (f : Poly) → Memᴰ f (table_of rows) → Good S f
-  good_rows [] h f m = elim m [ ]
-  good_rows (r ∷ rows) h f m = ⊎_elim (λ e. subst (Good S) (sym e) (h 0 r (omega arith) refl)) (λ n. good_rows rows (λ i x l e. h (suc i) x (omega (arith, l)) e) f n) (Memᴰ.cases_cons m)
+  module _ (c : Closed S s) (I : ∥ Sound S s ∥₁) {slice : List Row} (e : slice ≡ rows) where
+    pub verdict_one : true ≡ has_unit slice → Judges S s (verdict_answer 1)
+    verdict_one h =
+        let u = unit_at rows (sym (h ∙ ap has_unit e)) in
+        let l = u.inside in
+        let z : suc u.at - 1 ≡ u.at = omega arith in
+        impossible c ((Verdicts.verdict S W.lawful s I c).1 (record {
+          k = suc u.at;
+          within = (omega arith, subst (λ n. suc u.at ≤ n) (sym rows_there) (omega (arith, l)));
+          leads = ap (λ i. leading (get_or (table_of rows) i [])) z ∙ ap leading (map_at terms_of rows u.at u.it [] l u.is) ∙ sym (W.agrees.each u.at u.it l u.is).lead ∙ u.leads;
+        }))
 
-  pub verdict_one : {slice : List Row} → slice ≡ rows → Closed S s → true ≡ has_unit slice → Judges S s (verdict_answer 1)
-  verdict_one e c h =
-      let u = unit_at rows (sym (h ∙ ap has_unit e)) in
-      let l = u.inside in
-      let z : suc u.at - 1 ≡ u.at = omega arith in
-      Verdicts.judges_row S W.lawful s (good_rows rows (λ i r l e. (W.agrees i r l e).good)) c (record {
-        k = suc u.at;
-        within = (omega arith, subst (λ n. suc u.at ≤ n) (sym rows_there) (omega (arith, l)));
-        leads = ap (λ i. leading (get_or (table_of rows) i [])) z ∙ ap leading (map_at terms_of rows u.at u.it [] l u.is) ∙ sym (W.agrees u.at u.it l u.is).lead ∙ u.leads;
-      })
-
-  pub verdict_zero : {slice : List Row} → slice ≡ rows → Closed S s → false ≡ has_unit slice → ∥ Sound S s ∥₁ → Judges S s (verdict_answer 0)
-  verdict_zero e c h I = possible c (λ q. ∥∥₁_elim I (hlevel props) (λ A.
-      let n = (Verdicts.verdict S W.lawful s A c).0 q in
-      let l : n.k ≤ length rows = subst (λ z. n.k ≤ z) rows_there n.within.1 in
-      let o = n.within.0 in
-      let m : n.k - 1 < length rows = omega (arith, l, o) in
-      let x = element rows (n.k - 1) m in
-      both_ways (has_unit rows) (sym (h ∙ ap has_unit e)) (at_unit rows (n.k - 1) x.0 m x.1 ((W.agrees (n.k - 1) x.0 m x.1).lead ∙ sym (ap leading (map_at terms_of rows (n.k - 1) x.0 [] m x.1)) ∙ n.leads))))
+    pub verdict_zero : false ≡ has_unit slice → Judges S s (verdict_answer 0)
+    verdict_zero h = possible c (λ q.
+        let n = (Verdicts.verdict S W.lawful s I c).0 q in
+        let l : n.k ≤ length rows = subst (λ z. n.k ≤ z) rows_there n.within.1 in
+        let o = n.within.0 in
+        let m : n.k - 1 < length rows = omega (arith, l, o) in
+        let x = element rows (n.k - 1) m in
+        both_ways (has_unit rows) (sym (h ∙ ap has_unit e)) (at_unit rows (n.k - 1) x.0 m x.1 ((W.agrees.each (n.k - 1) x.0 m x.1).lead ∙ sym (ap leading (map_at terms_of rows (n.k - 1) x.0 [] m x.1)) ∙ n.leads)))
 
   -- ---- the fair copy
 
   pub copied_rows : {slice : List Row} (out : List ℕ) (r : Result Copied Refusal) (out' : List ℕ) → slice ≡ rows → Closed S s →
-      (Distinct (map lead_of slice) → Closed S (state_of slice xs) → FairCopies S (state_of slice xs) out (copied r) out') → Distinct (map lead_of rows) → FairCopies S s out (copied r) out'
-  copied_rows out r out' e c f I = subst (λ x. Distinct (map lead_of x) → Closed S (state_of x xs) → FairCopies S (state_of x xs) out (copied r) out') e f I c
+      (Closed S (state_of slice xs) → FairCopies S (state_of slice xs) out (copied r) out') → FairCopies S s out (copied r) out'
+  copied_rows out r out' e c f = subst (λ x. Closed S (state_of x xs) → FairCopies S (state_of x xs) out (copied r) out') e f c

@@ -1,5 +1,5 @@
 -- What a remainder and a row answer, from what was put to the front of the lent terms.
-use Rattle.std.proofs.Common.{◌≡◌, ℕ, ◌-◌, ◌≤◌, List, [], length, get_or, None, Ok, Err, Result, sym, subst, subst₂, arith}
+use Rattle.std.proofs.Common.{◌≡◌, ℕ, ◌≤◌, List, length, None, Ok, Err, Result, sym, subst, subst₂}
 use lib.ListN.{length-map}
 use Rattle.monomial.specs.Division.{Within}
 use Rattle.polynomial.specs.Polynomial.{Poly}
@@ -14,7 +14,6 @@ use Rattle.reduction.specs.declared.table.Row.{Row}
 use Rattle.reduction.specs.Reducing.{ChecksAndReduces, unfit, fit, told as told_of}
 use Rattle.reduction.specs.Table.{terms_of, table_of}
 use Rattle.sheet.specs.Putting.{Put}
-use Rattle.reduction.proofs.Mapping.{map_at}
 
 -- a polynomial that is not reduced has no remainder
 pub remains_unreduced : {S : Setting} {s : State} {f g out : Poly} {d : Denied} → Closed S s → ChecksAndReduces S s.rows f (Err d) g → Remains S s f out (denied (told_of d)) out
@@ -40,9 +39,6 @@ module _ {S : Setting} {s : State} (k : ℕ) {h out : Poly} where
 
 pub no_row : (rows : List Row) (k : ℕ) → (Within k (length rows) → ⊥) → Within k (length (table_of rows)) → ⊥
 no_row rows k n w = n (w.0, subst (λ x. k ≤ x) (length-map rows terms_of) w.1)
-
-pub row_is : (rows : List Row) (k : ℕ) (r : Row) → Within k (length rows) → r ≡ get_or rows (k - 1) r → terms_of r ≡ row (table_of rows) k
-row_is rows k r w e = sym (map_at terms_of rows (k - 1) r [] (let a = w.0 in let b = w.1 in omega (arith, a, b)) e)
 
 pub has_row : (rows : List Row) (k : ℕ) → Within k (length rows) → Within k (length (table_of rows))
 has_row rows k w = (w.0, subst (λ x. k ≤ x) (sym (length-map rows terms_of)) w.1)

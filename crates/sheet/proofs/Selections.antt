@@ -8,23 +8,20 @@ use Rattle.std.proofs.lemmas.List.FromFn.{length-enumerate_from, get_or-enumerat
 use Rattle.std.specs.Ordering.{is_lt, ordering_reverse}
 use Rattle.std.proofs.lemmas.List.{get_or-map}
 use Rattle.std.proofs.lemmas.Bool.{cases_eq, cond-true, both_ways}
-use Rattle.monomial.specs.Monomial.{Wide, Divides}
+use Rattle.monomial.specs.Monomial.{Divides}
 use Rattle.monomial.specs.Order.{Compare, OrderLaws, Under}
 use Rattle.monomial.specs.Division.{Within, Distinct, member}
 use Rattle.polynomial.specs.Polynomial.{leading}
 use Rattle.involutive.specs.Reduction.{row}
 use Rattle.involutive.specs.Sheet.{Setting, State}
-use Rattle.involutive.specs.Sound.{Sound}
-use Rattle.std.proofs.Math.Logic.{∥∥₁_elim}
-use Rattle.std.proofs.Props.{props}
 use Rattle.involutive.specs.Answers.{Minimal, Rising, rising_none, rising_one, rising_more, Selection}
 use Rattle.reduction.specs.declared.table.Row.{Row}
-use Rattle.reduction.specs.Table.{terms_of, table_of, SoundTable}
+use Rattle.reduction.specs.Table.{terms_of, SoundTable}
 use Rattle.sheet.specs.Marks.{state_of}
 use Rattle.sheet.specs.Rows.{lead_of}
 use Rattle.sheet.specs.Selecting.{Undivided, placed, Picks, Ascending, ascending_none, ascending_more}
 use Rattle.reduction.proofs.Mapping.{map_at, element}
-use Rattle.sheet.proofs.Choosings.{leading_wide}
+use Rattle.sheet.proofs.Standing.{leads_are}
 
 pub lead_at : (rows : List Row) (k : ℕ) (d : Row) → Within k (length rows) → member (map lead_of rows) k ≡ lead_of (get_or rows (k - 1) d)
 lead_at rows k d w = get_or-map lead_of rows (k - 1) d [] (omega (arith, w))
@@ -166,9 +163,9 @@ module _ (O : Compare) (Q : OrderLaws O) (U : List (List ℕ)) (i : ℕ) (old ne
   pub so_far_same : (Undivided U (i + 1) → ⊥) → new ≡ old → SoFar O U (i + 1) new
   so_far_same u e = subst (SoFar O U (i + 1)) (sym e) (picks_same O U i old I.0 u, I.1)
 
--- ---- on a sound sheet these are the rows to copy
+-- ---- in a sound table these are the rows to copy
 
-module _ (S : Setting) (rows : List Row) (xs : List (List Bool)) (I : SoundTable S rows) (A : Distinct (map lead_of rows)) where
+module _ (S : Setting) (rows : List Row) (xs : List (List Bool)) (I : SoundTable S rows) where
   abbrev U : List (List ℕ)
   U = map lead_of rows
 
@@ -179,14 +176,7 @@ module _ (S : Setting) (rows : List Row) (xs : List (List Bool)) (I : SoundTable
   lead_is k w =
       let h : k - 1 < length rows = omega (arith, w) in
       let x = element rows (k - 1) h in
-      map_at lead_of rows (k - 1) x.0 [] h x.1 ∙ (I (k - 1) x.0 h x.1).lead ∙ ap leading (sym (map_at terms_of rows (k - 1) x.0 [] h x.1))
-
-  lead_wide : (k : ℕ) → Within k (length rows) → Wide (member U k)
-  lead_wide k w =
-      let h : k - 1 < length rows = omega (arith, w) in
-      let x = element rows (k - 1) h in
-      let a = I (k - 1) x.0 h x.1 in
-      subst Wide (sym (map_at lead_of rows (k - 1) x.0 [] h x.1 ∙ a.lead)) (leading_wide (terms_of x.0) a.good)
+      map_at lead_of rows (k - 1) x.0 [] h x.1 ∙ (I.each (k - 1) x.0 h x.1).lead ∙ ap leading (sym (map_at terms_of rows (k - 1) x.0 [] h x.1))
 
   -- the rows, their leading monomials and their polynomials are as many
   inside : (k : ℕ) → Within k (length U) → Within k (length rows)
@@ -202,7 +192,7 @@ module _ (S : Setting) (rows : List Row) (xs : List (List Bool)) (I : SoundTable
   in_table k w = (w.0, subst (λ n. k ≤ n) (sym (length-map rows terms_of)) w.1)
 
   distinct : Distinct U
-  distinct = A
+  distinct = subst Distinct (sym (leads_are rows (λ i r h e. (I.each i r h e).lead))) I.distinct
 
   minimal : (k : ℕ) → Within k (length rows) × Undivided U k → Minimal S s k
   minimal k (w, u) = record {
@@ -227,24 +217,3 @@ module _ (S : Setting) (rows : List Row) (xs : List (List Bool)) (I : SoundTable
     rising = rises (λ k m. ((P k).0 m).0) (a distinct);
     minimal = λ k. (λ m. minimal k ((P k).0 m), λ m. (P k).1 (undivided k m));
   }
-
--- on a sound sheet the leading monomials differ
-pub leads_distinct : (S : Setting) (rows : List Row) (xs : List (List Bool)) → SoundTable S rows → ∥ Sound S (state_of rows xs) ∥₁ → Distinct (map lead_of rows)
-leads_distinct S rows xs I h = record {
-  wide = λ k w. let v = shorter k w in let l : k - 1 < length rows = omega (arith, v.0, v.1) in
-      let x = element rows (k - 1) l in let a = I (k - 1) x.0 l x.1 in
-      subst Wide (sym (map_at lead_of rows (k - 1) x.0 [] l x.1 ∙ a.lead)) (leading_wide (terms_of x.0) a.good);
-  once = λ j k v w e. ∥∥₁_elim h (hlevel props) (λ A. A.once j k (there j (shorter j v)) (there k (shorter k w)) (sym (lead j (shorter j v)) ∙ e ∙ lead k (shorter k w)));
-}
-  where
-    shorter : (k : ℕ) → Within k (length (map lead_of rows)) → Within k (length rows)
-    shorter k w = (w.0, subst (λ n. k ≤ n) (length-map rows lead_of) w.1)
-
-    there : (k : ℕ) → Within k (length rows) → Within k (length (table_of rows))
-    there k w = (w.0, subst (λ n. k ≤ n) (sym (length-map rows terms_of)) w.1)
-
-    lead : (k : ℕ) → Within k (length rows) → member (map lead_of rows) k ≡ leading (row (table_of rows) k)
-    lead k w =
-        let l : k - 1 < length rows = omega (arith, w) in
-        let x = element rows (k - 1) l in
-        map_at lead_of rows (k - 1) x.0 [] l x.1 ∙ (I (k - 1) x.0 l x.1).lead ∙ ap leading (sym (map_at terms_of rows (k - 1) x.0 [] l x.1))

@@ -1,7 +1,8 @@
 -- What becomes of what the rows left of a polynomial.
-use Rattle.std.proofs.Common.{◌≡◌, ℕ, ◌<◌, ◌≤◌, Bool, List, [], ◌∷◌, ◌++◌, map, length, Ok, Err, Result, MatchResult, false, eqb, refl, sym, subst, subst₂, arith}
+use Rattle.std.proofs.Common.{◌≡◌, ℕ, ◌-◌, ◌∙◌, ◌<◌, ◌≤◌, Bool, List, [], ◌∷◌, ◌++◌, map, length, Ok, Err, Result, MatchResult, false, eqb, refl, sym, subst, subst₂, arith}
 use mathlib.Core.List.Memᴰ
 use lib.ListN.{length-map}
+use Rattle.std.proofs.lemmas.List.{get_or-map}
 use Rattle.std.proofs.lemmas.Bool.{eqb-false}
 use Rattle.monomial.specs.Monomial.{Wide, one}
 use Rattle.polynomial.specs.declared.term.Term.{Term}
@@ -47,7 +48,7 @@ Says S rows new g r len = Over S.field S.variables g → 0 < leading_coefficient
 
 module _ {S : Setting} {rows : List Row} (t : Term) (g : Poly) (R : Rest S rows (t ∷ g)) where
   taken : Acceptable S.field S.order S.variables (t ∷ g)
-  taken = (Soundness.reduces_acceptable S R.whole.lawful R.left.reduced R.left.acceptable).0
+  taken = R.left.acceptable
 
   monic : Good S (made S (t ∷ g))
   monic = Soundness.monic_row S R.whole.lawful t g taken
@@ -74,7 +75,9 @@ pub settle_stands : {S : Setting} {rows new : List Row} {g : Poly} (len : ℕ) �
 settle_stands {g = []} len R E = absurd (let p = R.some in omega (arith, p))
 settle_stands {S = S} {rows = rows} {new = new} {g = t ∷ g} len R E =
     let b = says t g R new (Ok tt) len E in
-    stands S R.whole.lawful.division rows new (made S (t ∷ g)) R.whole.agrees (subst (λ x. Appended S.division (made S (t ∷ g)) x rows new) (sym (Soundness.monic_leads S R.whole.lawful t g (taken t g R))) b.1) (monic t g R)
+    let leads = Soundness.monic_leads S R.whole.lawful t g (taken t g R) in
+    stands S R.whole.lawful.division rows new (made S (t ∷ g)) R.whole.agrees (subst (λ x. Appended S.division (made S (t ∷ g)) x rows new) (sym leads) b.1) (monic t g R)
+    (λ k w e. Soundness.fresh S R.whole.lawful (table_of rows) t g R.left.irreducible k (rw (length-map (table_of rows) leading) at w) (sym (get_or-map leading (table_of rows) (k - 1) [] [] (omega (arith, w, length-map (table_of rows) leading))) ∙ e ∙ leads))
 
 -- the leading monomials after a row more, and that the new one is wide
 pub settle_leads : {S : Setting} {rows new : List Row} {g : Poly} (len : ℕ) → Rest S rows g → Says S rows new g (Ok tt) len → Wide (leading g) × (map lead_of new ≡ map lead_of rows ++ (leading g ∷ [])) × (len < most_rows)
@@ -87,4 +90,4 @@ settle_leads {S = S} {rows = rows} {new = new} {g = t ∷ g} len R E =
 pub settles_sound : {S : Setting} {s s' : State} {g : Poly} {r : Result Settled Refusal} → Lawful S → Left S s.rows g → Settles S s g r s' → Sound S s → Sound S s'
 settles_sound W L nothing I = I
 settles_sound W L (full m) I = I
-settles_sound {S = S} W L (appends l) I = let w = Soundness.reduces_acceptable S W L.reduced L.acceptable in Soundness.new_row S W I l w.0 w.1
+settles_sound {S = S} W L (appends l) I = Soundness.new_row S W I l L.acceptable L.irreducible

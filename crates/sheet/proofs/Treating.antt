@@ -7,6 +7,7 @@ use Rattle.polynomial.specs.Check.{Fits, most_terms}
 use Rattle.involutive.specs.Reduction.{left}
 use Rattle.involutive.specs.Sheet.{Setting, State, Chosen, prolonged, with_mark}
 use Rattle.involutive.specs.Answers.{ReducesTo, Steps, denied, marked_answer, appended_answer, step_wide, step_stuck, step_mark, step_full, step_row}
+use Rattle.involutive.proofs.Soundness
 use Rattle.involutive.proofs.Typing.{ground_of}
 use Rattle.calls.specs.declared.refusal.Refusal.{Refusal}
 use Rattle.calls.specs.Told.{told}
@@ -46,7 +47,8 @@ there S rows xs {k} C = ((C.pair.at_row.0, subst (λ n. k ≤ n) (length-map row
 pub left_of : {S : Setting} {rows : List Row} (xs : List (List Bool)) {k v : ℕ} {g : Poly} → Whole S rows → Taken S (state_of rows xs) k v g → Left S (table_of rows) g
 left_of {S} {rows} xs {k} {v} W T =
     let w = there S rows xs T.chosen in
-    record { whole = _; acceptable = acceptable (ground_of S W.lawful) S.division rows W.agrees k v w.0 w.1 T.fits; reduced = T.reduced }
+    let a = Soundness.reduces_acceptable S W.lawful T.reduced (acceptable (ground_of S W.lawful) S.division rows W.agrees k v w.0 w.1 T.fits) in
+    record { acceptable = a.0; irreducible = a.1 }
 
 -- ---- from what becomes of what is left
 

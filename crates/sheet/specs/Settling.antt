@@ -2,19 +2,18 @@
 use Rattle.std.specs.Prelude.{◌≡◌, ◌<◌, [], ◌∷◌, length, Ok, Err, Result}
 use Rattle.polynomial.specs.declared.term.Term.{Term}
 use Rattle.polynomial.specs.Polynomial.{Poly}
-use Rattle.polynomial.specs.Check.{Acceptable, most_terms}
-use Rattle.involutive.specs.Reduction.{Table, left, Reduces}
+use Rattle.polynomial.specs.Check.{Acceptable}
+use Rattle.involutive.specs.Reduction.{Table, Irreducible}
 use Rattle.involutive.specs.Sheet.{Setting, State, most_rows, with_row}
 use Rattle.calls.specs.declared.refusal.Refusal.{Refusal}
 use Rattle.calls.specs.declared.refusal.Refusal.TheVariants.{Full}
 use Rattle.sheet.specs.declared.settle.Settled.{Settled}
 use Rattle.sheet.specs.declared.settle.Settled.TheVariants.{Nothing, Appended}
 
--- g is what the rows T leave of some polynomial
+-- what the rows T may leave of a polynomial: one within the limits of which no term has an involutive divisor
 pub record Left (S : Setting) (T : Table) (g : Poly) : Type 0 where
-  pub whole : Poly
-  pub acceptable : Acceptable S.field S.order S.variables whole
-  pub reduced : Reduces S.field S.order S.division S.variables T most_terms whole (left g)
+  pub acceptable : Acceptable S.field S.order S.variables g
+  pub irreducible : Irreducible S.field S.order S.division S.variables T g
 
 -- `Settles S s g r s'`: what becomes of g, which the rows left, on a sheet with state s, and the state after it
 pub data Settles (S : Setting) (s : State) : Poly → Result Settled Refusal → State → Type 0 where

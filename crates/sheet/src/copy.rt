@@ -1,7 +1,7 @@
 // The fair copy: the rows that no other divides, each with its other terms reduced, as bytes.
-ghost use Rattle.std.specs.Prelude.{◌≡◌, ℕ, ◌+◌, ◌≤◌, Bool, List, [], ◌++◌, map, length, IfOk, vec_len, vec_capacity, MatchResult};
+ghost use Rattle.std.specs.Prelude.{◌≡◌, ℕ, ◌+◌, ◌≤◌, Bool, List, [], ◌++◌, length, IfOk, vec_len, vec_capacity, MatchResult};
 ghost use mathlib.Core.List.{Memᴰ};
-ghost use Rattle.monomial.specs.Division.{Distinct, Within};
+ghost use Rattle.monomial.specs.Division.{Within};
 ghost use Rattle.polynomial.specs.Bytes.{poly_bytes, bytes_needed};
 ghost use Rattle.involutive.specs.Reduction.{row as line};
 ghost use Rattle.involutive.specs.Sheet.{Closed, most_rows};
@@ -9,7 +9,6 @@ ghost use Rattle.involutive.specs.Answers.{FairCopies};
 ghost use Rattle.calls.specs.Told.{copied};
 ghost use Rattle.reduction.specs.Table.{setting, table_of};
 ghost use Rattle.sheet.specs.Marks.{state_of};
-ghost use Rattle.sheet.specs.Rows.{lead_of};
 ghost use Rattle.sheet.specs.Copying.{row_room, copy_room, RowCopied, RowsCopied, Delivered};
 
 use crate::put::put;
@@ -140,7 +139,7 @@ pub(crate) fn write_fair_copy<F: Field, O: Order, D: Division>(
 ) -> Result<Copied, Refusal>
     requires { length rows.now.rows.now ≤ most_rows }
     ensures within { MatchResult result (λ c. c.bytes ≤ length out.old) (λ _. out.new ≡ out.old) }
-    ensures answer { let S = setting (F.Field.meaning rows.now.ring.now.field) (O.Order.meaning rows.now.ring.now.order) (D.Division.meaning rows.now.division.now) rows.now.ring.now.variables in (xs : List (List Bool)) → Distinct (map lead_of rows.now.rows.now) → Closed S (state_of rows.now.rows.now xs) → FairCopies S (state_of rows.now.rows.now xs) out.old (copied result) out.new }
+    ensures answer { let S = setting (F.Field.meaning rows.now.ring.now.field) (O.Order.meaning rows.now.ring.now.order) (D.Division.meaning rows.now.division.now) rows.now.ring.now.variables in (xs : List (List Bool)) → Closed S (state_of rows.now.rows.now xs) → FairCopies S (state_of rows.now.rows.now xs) out.old (copied result) out.new }
 {
     select(&rows.ring.order, rows.rows, &mut buffer.list);
     copy_rows(rows, buffer.list.as_slice(), work, &mut buffer.bytes)?;

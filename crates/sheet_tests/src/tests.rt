@@ -154,7 +154,7 @@ fn one_to_six_variables(rt: HostRuntime) -> Result<(), Fail> {
     Ok(())
 }
 
-// A sheet over the field of four elements with the row x1 + 2 x2^b; nothing where a call is denied.
+// A sheet over the field of four elements with the row x1 + 2 x2^b; nothing where memory is wanting or the row is denied.
 fn over_four(heap: Global, b: u8) -> Option<Sheet<Four, Lexicographic, Janet>> {
     let ring = Ring {
         field: Four,

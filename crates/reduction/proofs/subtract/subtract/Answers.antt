@@ -1,6 +1,5 @@
-use Rattle.std.proofs.Common.{◌≡◌, min, Ok, Err, Result, vec_items, sym, ap, subst, arith}
+use Rattle.std.proofs.Common.{◌≡◌, Ok, Err, Result, vec_items, sym, ap, subst}
 use Rattle.std.specs.Result.{IsErrAnd}
-use Rattle.polynomial.specs.Check.{most_terms}
 use Rattle.involutive.specs.Value.{scaled}
 use Rattle.reduction.specs.declared.refusal.Reason.{Reason}
 use Rattle.reduction.specs.declared.refusal.Reason.TheVariants.{Long}
@@ -25,9 +24,9 @@ returns-in_err-add_multiple g c n v w p b i =
     let small = sym c.if-not-fits.ensures in
     let negative : c.unwrap_or.result ≡ code_negative F c.args.factor.now.coefficient = cc (c.unwrap_or.ensures, c.neg.ensures) in
     let s = c.in_err-add_multiple.ensures in
-    subst (λ r. Subtracted F O n (min c.args.room most_terms) c.args.terms.now (scaled F c.args.factor.now.coefficient (exponents c.args.factor.now) c.args.row.now) r (vec_items c.add_multiple.new.out.terms)) (sym (too_long c.from_residual.result c.from_residual.ensures.1)) (
+    subst (λ r. Subtracted F O n c.args.room.terms c.args.terms.now (scaled F c.args.factor.now.coefficient (exponents c.args.factor.now) c.args.row.now) r (vec_items c.add_multiple.new.out.terms)) (sym (too_long c.from_residual.result c.from_residual.ensures.1)) (
       fits_yes F c.args.factor.now.coefficient (exponents c.args.factor.now) c.args.row.now small,
-      (s.0, differs F (g.met.F.Field.laws c.args.ring.now.field) O (g.met.O.Order.laws c.args.ring.now.order) n _ _ _ _ v w p b i _ negative small s.1, omega (arith, s.2, c.new.ensures)),
+      (s.0, differs F (g.met.F.Field.laws c.args.ring.now.field) O (g.met.O.Order.laws c.args.ring.now.order) n _ _ _ _ v w p b i _ negative small s.1, s.2),
     )
 
 pub returns : goal.returns
@@ -38,5 +37,5 @@ returns g c n v w p b i =
     let s = c.in_ok-add_multiple.ensures in (
       fits_yes F c.args.factor.now.coefficient (exponents c.args.factor.now) c.args.row.now small,
       differs F (g.met.F.Field.laws c.args.ring.now.field) (g.O.Order.meaning c.args.ring.now.order) (g.met.O.Order.laws c.args.ring.now.order) n _ _ _ _ v w p b i _ negative small s.0,
-      omega (arith, s.1, c.new.ensures),
+      s.1,
     )

@@ -4,10 +4,10 @@ use Rattle.calls.specs.Told.{told}
 use Rattle.involutive.specs.Reduction.{row}
 use Rattle.reduction.specs.Reducing.{told as told_of}
 use Rattle.reduction.specs.Table.{terms_of, table_of}
+use Rattle.reduction.proofs.Lines.{row_at}
 use Rattle.reduction.proofs.Renaming.{renamed, unrefused}
 use Rattle.sheet.proofs.FairCopying.{row_bytes, row_denied}
 use Rattle.sheet.proofs.Present.{answered}
-use Rattle.sheet.proofs.Puttings.{row_is}
 use Rattle.sheet.proofs.copy.copy_row.Goals as goal
 
 pub unwrap-requires : goal.unwrap-requires
@@ -31,5 +31,5 @@ returns-clause-copy g c =
     let h = vec_items c.reduce_tail.new.work.done.terms in
     let a = answered _ c.reduce_tail.result c.unwrap.result c.reduce_tail.ensures.answer c.unwrap.ensures in
     let o = unrefused c.unwrap.result c.map_err.result _ c.map_err.ensures.cases c.in_ok-map_err.field-0 c.in_ok-map_err.was in
-    let w : c.as_slice.result.now ≡ f = c.as_slice.ensures.value ∙ ap terms_of (sym c.index-rows-k.is) ∙ row_is rows k c.index-rows-k.result c.requires.within c.index-rows-k.is in
+    let w : c.as_slice.result.now ≡ f = c.as_slice.ensures.value ∙ ap terms_of (sym c.index-rows-k.is) ∙ sym (row_at rows k c.requires.within c.index-rows-k.result c.index-rows-k.is) in
     (h, (rw o at a).comes, row_bytes f h (take 1 c.as_slice.result.now) c.as_slice-2.result.now (vec_items c.args.bytes.now.written) (vec_items c.push_terms.new.self.written) (vec_items c.push_terms-2.new.self.written) (vec_items c.push_reserved.new.self) (ap (take 1) w) c.as_slice-2.ensures.value c.push_terms.ensures.items c.push_terms-2.ensures.items c.push_reserved.ensures.items)

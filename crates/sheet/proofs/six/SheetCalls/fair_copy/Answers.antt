@@ -4,7 +4,6 @@ use Rattle.involutive.specs.Answers.{copy_open}
 use Rattle.involutive.specs.Log.{After}
 use Rattle.sheet.specs.Marks.{rows_of}
 use Rattle.sheet.proofs.Whole.{whole}
-use Rattle.sheet.proofs.Selections.{leads_distinct}
 use Rattle.sheet.proofs.Closing.{is_closed, is_open, copied_rows}
 use Rattle.sheet.proofs.six.SheetCalls.fair_copy.Goals as goal
 
@@ -25,7 +24,7 @@ returns-clause-answer g c =
     let x = c.args.self.now in
     let xs = rows_of x.marks in
     let W = whole (g.met.F.Field.laws x.ring.field) (g.met.O.Order.laws x.ring.order) (g.met.D.Division.laws x.division) x.some x.few (vec_items x.table.rows) x.agrees in
-    copied_rows W xs c.args.out.now c.write_fair_copy.result c.write_fair_copy.new.out c.as_slice.ensures.value (is_closed W xs x.queued x.queue.picks.ok.0 c.in_ok-check_closed.ensures) (c.write_fair_copy.ensures.answer xs) (leads_distinct _ (vec_items x.table.rows) xs x.agrees x.sound)
+    copied_rows W xs c.args.out.now c.write_fair_copy.result c.write_fair_copy.new.out c.as_slice.ensures.value (is_closed W xs x.queued x.queue.picks.ok.0 c.in_ok-check_closed.ensures) (c.write_fair_copy.ensures.answer xs)
 
 pub returns-clause-logged : goal.returns-clause-logged
 returns-clause-logged g c calls gs a = After.copied a (returns-clause-answer g c)

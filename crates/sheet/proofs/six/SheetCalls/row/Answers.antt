@@ -1,8 +1,9 @@
-use Rattle.std.proofs.Common.{◌≡◌, length, vec_items, vec_len, ◌∙◌, arith, rules}
+use Rattle.std.proofs.Common.{◌≡◌, length, vec_items, vec_len, sym, ◌∙◌, arith, rules}
 use Rattle.monomial.specs.Division.{Within}
 use Rattle.involutive.specs.Answers.{row_absent}
 use Rattle.involutive.specs.Log.{After}
-use Rattle.sheet.proofs.Puttings.{shows_put, row_is, has_row, no_row}
+use Rattle.reduction.proofs.Lines.{row_at}
+use Rattle.sheet.proofs.Puttings.{shows_put, has_row, no_row}
 use Rattle.sheet.proofs.six.SheetCalls.row.Goals as goal
 
 pub returns-then-number-eq0-clause-answer : goal.returns-then-number-eq0-clause-answer
@@ -21,7 +22,7 @@ returns-clause-answer g c =
     let n = c.args.number in
     let z : vec_len c.args.self.now.table.rows ≡ length rows = search rules in
     let w : Within n (length rows) = (omega arith, omega arith) in
-    shows_put n (has_row rows n w) c.put.result (c.as_slice.ensures.value ∙ row_is rows n c.index.result.now w c.index.ensures) c.put.ensures
+    shows_put n (has_row rows n w) c.put.result (c.as_slice.ensures.value ∙ sym (row_at rows n w c.index.result.now c.index.ensures)) c.put.ensures
 
 pub returns-clause-logged : goal.returns-clause-logged
 returns-clause-logged g c calls gs a = After.shown a (returns-clause-answer g c)

@@ -21,7 +21,7 @@ returns-then-leads_with_one g c =
     let x = c.args.self.now in
     let xs = rows_of x.marks in
     let W = whole (g.met.F.Field.laws x.ring.field) (g.met.O.Order.laws x.ring.order) (g.met.D.Division.laws x.division) x.some x.few (vec_items x.table.rows) x.agrees in
-    let k = verdict_one W xs c.as_slice.ensures.value (is_closed W xs x.queued x.queue.picks.ok.0 c.in_ok-check_closed.ensures) c.if-leads_with_one.ensures in
+    let k = verdict_one W xs (is_closed W xs x.queued x.queue.picks.ok.0 c.in_ok-check_closed.ensures) x.sound c.as_slice.ensures.value c.if-leads_with_one.ensures in
     record { answer = k; logged = λ calls gs a. After.judged a k }
 
 pub returns-else-leads_with_one : goal.returns-else-leads_with_one
@@ -29,5 +29,5 @@ returns-else-leads_with_one g c =
     let x = c.args.self.now in
     let xs = rows_of x.marks in
     let W = whole (g.met.F.Field.laws x.ring.field) (g.met.O.Order.laws x.ring.order) (g.met.D.Division.laws x.division) x.some x.few (vec_items x.table.rows) x.agrees in
-    let k = verdict_zero W xs c.as_slice.ensures.value (is_closed W xs x.queued x.queue.picks.ok.0 c.in_ok-check_closed.ensures) c.if-leads_with_one.ensures x.sound in
+    let k = verdict_zero W xs (is_closed W xs x.queued x.queue.picks.ok.0 c.in_ok-check_closed.ensures) x.sound c.as_slice.ensures.value c.if-leads_with_one.ensures in
     record { answer = k; logged = λ calls gs a. After.judged a k }
