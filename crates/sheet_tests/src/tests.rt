@@ -154,7 +154,8 @@ fn one_to_six_variables(rt: HostRuntime) -> Result<(), Fail> {
     Ok(())
 }
 
-// A sheet over the field of four elements with the row x1 + 2 x2^b; nothing where memory is wanting or the row is denied.
+// A sheet over the field of four elements with the rows x1 + 2 x2^b and x2^2 + 3; nothing where memory is wanting or a row is
+// denied.
 fn over_four(heap: Global, b: u8) -> Option<Sheet<Four, Lexicographic, Janet>> {
     let ring = Ring {
         field: Four,
@@ -164,11 +165,9 @@ fn over_four(heap: Global, b: u8) -> Option<Sheet<Four, Lexicographic, Janet>> {
     match Sheet::new(heap, ring, Janet) {
         Err(_) => None,
         Ok(mut sheet) => {
-            if sheet.add(&[term(1, 1, 0), term(2, 0, b)]).is_ok() {
-                Some(sheet)
-            } else {
-                None
-            }
+            let first = sheet.add(&[term(1, 1, 0), term(2, 0, b)]).is_ok();
+            let second = sheet.add(&[term(1, 0, 2), term(3, 0, 0)]).is_ok();
+            if first && second { Some(sheet) } else { None }
         }
     }
 }
@@ -178,8 +177,7 @@ fn reduces_to_a_constant(rt: HostRuntime) -> Result<(), Fail> {
     match over_four(rt.alloc(), 1) {
         None => Err(Fail::new("no sheet")),
         Some(mut sheet) => {
-            // x2^2 + 3, whose prolongation by x1 reduces to zero
-            assert_eq!(rt; told(sheet.add(&[term(1, 0, 2), term(3, 0, 0)])), (0, 0));
+            // x2^2 + 3 times x1 reduces to zero, which closes the sheet.
             assert!(rt; sheet.step().is_ok());
             let mut out = [term(7, 7, 7); 2];
             // x1^2 = 3 x2^2 = 3 * 3 = 2
