@@ -15,7 +15,7 @@ use polynomial::term::Term;
 // Each call promises, on every value, the answer, the state and the buffer that the definitions give, and that the setting stays.
 // What follows from the answer and is asked for most stands in clauses of its own: that a refused call leaves the state and the lent
 // buffer as they were, and that the call enters the log. What a sheet is made of keeps its laws, and its state is sound: both hold of
-// every value that there is of the type.
+// every value of the type.
 pub trait Calls {
     // What the sheet is made of, and what it holds.
     ghost setting: { Self → Setting };
@@ -62,8 +62,8 @@ pub trait Calls {
     ghost sound: { (x : Self) → ∥ Sound (setting x) (state x) ∥₁ };
 }
 
-// To each call on any sheet that there is the definitions allow one answer at most, one state and one buffer after it: so what
-// a call's clause `answer` tells is all that could be. There is nothing to run.
+// For each call on any sheet the definitions allow one answer at most, and one state and one buffer after it; so the clause
+// `answer` leaves a call no choice. There is nothing to run.
 pub fn one_answer<C: Calls>(sheet: &C)
     ensures { OneAnswer (C.Calls.setting sheet.now) (C.Calls.state sheet.now) }
 {

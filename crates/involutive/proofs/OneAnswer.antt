@@ -260,7 +260,7 @@ sound_one S W s I = record {
   judges = λ a b p q. judges_one S W s I p q;
 }
 
--- what is said are equations in sets, so that there is a proof of soundness serves
+-- what is said are equations in sets, so it is enough that a proof of soundness exists
 pub one_answer : OneAnswerEach
 one_answer S W s I = ∥∥₁_elim I (hlevel (⊎_set, props)) (sound_one S W s)
 

@@ -78,10 +78,8 @@ module _ (S : Setting) (W : Lawful S) where
   )
 
   -- what a program may answer after it has looked at every row
-  pub judges_row : (s : State) → ((f : Poly) → Memᴰ f s.rows → Row S f) → Closed S s → UnitRow s → Judges S s (verdict_answer 1)
-  judges_row s each c u =
-      let h : Memᴰ (row s.rows u.k) s.rows = Lists.entry_member [] s.rows (u.k - 1) (omega (arith, u.within.0, u.within.1)) in
-      impossible c (subst (Member F N s.rows) (monic_unit (row s.rows u.k) (each _ h) u.leads) (Ideals.member_generator ground s.rows (λ p k. (each p k).acceptable.written.over) (row s.rows u.k) h))
+  pub judges_row : (s : State) → Sound S s → Closed S s → UnitRow s → Judges S s (verdict_answer 1)
+  judges_row s I c u = impossible c ((sound_verdict s I c).1 u)
 
   pub judges_none : (s : State) → Sound S s → Closed S s → ((k : ℕ) → Within k (length s.rows) → leading (row s.rows k) ≡ one → ⊥) → Judges S s (verdict_answer 0)
   judges_none s I c n = possible c (λ m. let u = (sound_verdict s I c).0 m in n u.k u.within u.leads)
@@ -100,7 +98,7 @@ module _ (S : Setting) (W : Lawful S) where
       (cases_Bool (same m one)))
       (find_unit s n (omega arith))
 
-  -- that there is a proof of soundness serves: what is taken from it are equations, bounds and contradictions
+  -- it is enough that a proof of soundness exists: what is taken from it are equations, bounds and contradictions
   pub verdict : (s : State) → ∥ Sound S s ∥₁ → Closed S s → Member F N s.rows unit ↔ UnitRow s
   verdict s I c = (
     λ m. ⊎_elim (λ u. u) (λ none. absurd (∥∥₁_elim I (hlevel props) (λ A. let u = (sound_verdict s A c).0 m in none u.k u.within u.leads))) (find_unit s (length s.rows) (omega arith)),

@@ -32,7 +32,7 @@ module _ (s : State) where
 module _ (S : Setting) (W : Lawful S) (s : State) (I : Sound S s) (c : Closed S s) where
   abbrev verdict? : (v : ℕ) → Option (Judges S s (verdict_answer v))
   verdict? zero = no_unit? s >>= λ h. Some (Verdicts.judges_none S W s I c h)
-  verdict? (suc zero) = some? (λ k. within? k (length s.rows) >>= λ w. same? (leading (row s.rows k)) one >>= λ e. Some (Verdicts.judges_row S W s I.each c (record { k = k; within = w; leads = e }))) (length s.rows)
+  verdict? (suc zero) = some? (λ k. within? k (length s.rows) >>= λ w. same? (leading (row s.rows k)) one >>= λ e. Some (Verdicts.judges_row S W s I c (record { k = k; within = w; leads = e }))) (length s.rows)
   verdict? (suc (suc v)) = None
 
 module _ (S : Setting) (W : Lawful S) (calls : List Call) (gs T fs : List Poly) (v : ℕ) where

@@ -74,6 +74,7 @@ pub record UnitRow (s : State) : Type 0 where
   pub within : Within k (length s.rows)
   pub leads : leading (row s.rows k) ≡ one
 
--- on a sound closed sheet 1 lies in the ideal exactly when a row has the leading monomial 1; that there is a proof of soundness serves
+-- on a sound closed sheet 1 lies in the ideal exactly when a row has the leading monomial 1; it is enough that a proof of
+-- soundness exists (`∥ .. ∥₁`)
 abbrev pub Verdict : Type 0
 Verdict = (S : Setting) → Lawful S → (s : State) → ∥ Sound S s ∥₁ → Closed S s → Member S.field S.variables s.rows unit ↔ UnitRow s

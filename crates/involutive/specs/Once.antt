@@ -1,5 +1,5 @@
 -- One answer: on a sound sheet each call has at most one answer and leaves one state and one buffer, so a log determines its sheet.
--- That the sheet is sound is asked for as a type tells it of its values, without a proof to take apart (`∥ .. ∥₁`).
+-- Soundness is asked for only as a type can keep it: that a proof exists (`∥ .. ∥₁`).
 use Rattle.std.specs.Prelude.{◌≡◌, ℕ, List}
 use Rattle.polynomial.specs.Polynomial.{Poly, Written}
 use Rattle.involutive.specs.Reduction.{Outcome}

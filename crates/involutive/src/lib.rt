@@ -23,8 +23,8 @@ ghost use Rattle.involutive.specs.Complete.{CompleteTables, Verdict};
 ghost use Rattle.involutive.specs.Facts.{FactsHold};
 ghost use Rattle.involutive.specs.Examples.{NotEmpty};
 
-// On a sound sheet each call has at most one answer, and leaves one state and one buffer; that there is a proof of
-// soundness serves.
+// On a sound sheet each call has at most one answer, and leaves one state and one buffer; it is enough that a proof of
+// soundness exists.
 pub fn one_answer() -> u8
     ensures { OneAnswerEach }
 {

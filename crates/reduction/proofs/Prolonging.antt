@@ -23,7 +23,7 @@ use Rattle.reduction.proofs.Lines.{good_at}
 use Rattle.reduction.proofs.Mapping.{map_at}
 
 module _ (F : FieldMeaning) (O : Compare) (D : Split) (n : ℕ) (rows : List Row) (I : SoundTable (setting F O D n) rows) (k v : ℕ) (w : Within k (length rows)) (it : Row) (e : it ≡ get_or rows (k - 1) it) where
-  -- what `scale` says of the row's terms, as they were read, it says of the row of the sheet
+  -- what `scale` says of the row's terms, as they were read, it says of that row of the table
   pub prolonged_row : (r : Result (Unit {0}) Reason) (out read : Poly) (x : List ℕ) → read ≡ terms_of (get_or rows (k - 1) it) → x ≡ variable v → 1 < F.q →
       (Over F n read → 1 < F.q → MatchResult r (λ _. Fits (scaled F 1 x read) × (out ≡ scaled F 1 x read)) (Unscaled read (scaled F 1 x read))) →
       MatchResult r (λ _. Fits (scaled F 1 (variable v) (row (table_of rows) k)) × (out ≡ scaled F 1 (variable v) (row (table_of rows) k))) (λ _. Fits (scaled F 1 (variable v) (row (table_of rows) k)) → ⊥)

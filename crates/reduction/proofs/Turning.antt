@@ -93,23 +93,23 @@ module _ (G : Ground) (D : Split) (rows : List Row) (sound : SoundTable (setting
   wides {h} {fine} {rest} st t m = (st.written.over t (Memᴰ.append_right fine m)).1.wide
 
   -- there is room for the terms that are done
-  front_fits : {h fine rest : Poly} {turn : ℕ} → At h fine rest turn → (part : Poly) → length part ≤ length rest → (most : ℕ) → most ≡ room → length fine + length part ≤ most
-  front_fits {h} {fine} {rest} st part l most p = let b = st.short in omega (arith, length-append fine rest)
+  front_fits : {h fine rest : Poly} {turn : ℕ} → At h fine rest turn → (part : Poly) → length part ≤ length rest → length fine + length part ≤ room
+  front_fits {h} {fine} {rest} st part l = let b = st.short in omega (arith, length-append fine rest)
 
   -- no term is left that a row divides
-  pub finished : {h fine rest : Poly} {turn : ℕ} → At h fine rest turn → Finds rows rest None → (most : ℕ) → most ≡ room → (res : Result (Unit {0}) NoRoom) (fine' : Poly) → Extended fine rest most res fine' → Reduces F O D n T room h (left fine')
-  finished {h} {fine} {rest} {turn} st none most is res fine' extended =
-      let e = extend_all fine rest most res fine' (front_fits st rest (omega arith) most is) extended in
+  pub finished : {h fine rest : Poly} {turn : ℕ} → At h fine rest turn → Finds rows rest None → (res : Result (Unit {0}) NoRoom) (fine' : Poly) → Extended fine rest room res fine' → Reduces F O D n T room h (left fine')
+  finished {h} {fine} {rest} {turn} st none res fine' extended =
+      let e = extend_all fine rest room res fine' (front_fits st rest (omega arith)) extended in
       let k = subst (Each (Clean G D T)) (take_all (length rest) rest (omega arith)) (clean_upto rest (length rest) (omega arith) (wides st) none) in
       subst (λ x. Reduces F O D n T room h (left x)) (sym e) (ended G D T room (moved G D T room rest [] (subst (λ x. At h fine x turn) (sym (append-nil rest)) st) k))
 
-  -- A turn at term i and row k, where the code has room for `most` terms and hands on what the terms that are done leave of it.
-  module _ {h fine rest : Poly} {turn : ℕ} (st : At h fine rest turn) (i k : ℕ) (found : Finds rows rest (Some (i, k))) (r : Row) (is_r : r ≡ get_or rows k r) (most : ℕ) (is_most : most ≡ room) (res : Result (Unit {0}) NoRoom) (fine' : Poly) (extended : Extended fine (take i rest) most res fine') where
+  -- A turn at term i and row k, to which the code hands what the terms that are done leave of the room.
+  module _ {h fine rest : Poly} {turn : ℕ} (st : At h fine rest turn) (i k : ℕ) (found : Finds rows rest (Some (i, k))) (r : Row) (is_r : r ≡ get_or rows k r) (res : Result (Unit {0}) NoRoom) (fine' : Poly) (extended : Extended fine (take i rest) room res fine') where
     abbrev t : Term
     t = get_or rest i (term 0 [])
 
     front : fine' ≡ fine ++ take i rest
-    front = extend_all fine (take i rest) most res fine' (front_fits st (take i rest) (omega (arith, length-take i rest)) most is_most) extended
+    front = extend_all fine (take i rest) room res fine' (front_fits st (take i rest) (omega (arith, length-take i rest))) extended
 
     abbrev at_row : SoundRow (setting F O D n) T k r
     at_row = sound.each k r found.2.inside is_r
@@ -171,7 +171,7 @@ module _ (G : Ground) (D : Split) (rows : List Row) (sound : SoundTable (setting
         (here.written.nonzero t t_there) (here.written.over t t_there).0
         (subst (In n) (sym shift_is) (Acting.shift_in G action))
 
-    module _ (free : ℕ) (is_free : free ≡ most - length fine') (behind : Poly) (is_behind : behind ≡ drop (i + 1) rest) where
+    module _ (free : ℕ) (is_free : free ≡ room - length fine') (behind : Poly) (is_behind : behind ≡ drop (i + 1) rest) where
       exact : length fine' + free ≡ room
       exact = let w = here.short in omega (arith, length-append fine' (t ∷ drop (i + 1) rest))
 

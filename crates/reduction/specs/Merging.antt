@@ -1,5 +1,5 @@
 -- What the code of a multiple and of a subtraction computes on every value, sound or not, one term after another. The public
--- contract of `scale` uses the words on multiples (`image`, `all_small`, `Multiplies`), and no public contract uses another.
+-- contract of `scale` uses `Multiplies` and what that is made of, and no public contract uses the rest.
 use Rattle.std.specs.Prelude.{◌≡◌, ℕ, ◌+◌, ◌<◌, ◌≤◌, min, Bool, true, false, ◌&&◌, List, [], ◌∷◌, ◌++◌, map, length, Ok, Err, Result, nat_le, slice_index_or}
 use Rattle.std.specs.declared.cmp.Ordering.TheVariants.{Less, Equal, Greater}
 use Rattle.std.specs.List.{list_all}

@@ -22,8 +22,8 @@ number TooLong = 10
 -- why a polynomial is not reduced, by number and place
 abbrev pub told : Denied → Refusal
 told (Polynomial unfit) = fault_refusal unfit
-told (Wide k) = refuse 9 k
-told (Long k) = refuse 10 k
+told (Wide k) = refuse (number TooWide) k
+told (Long k) = refuse (number TooLong) k
 
 -- what is left of a polynomial, or why it is not reduced
 abbrev pub outcome : Result (Unit {0}) Denied → Poly → Outcome

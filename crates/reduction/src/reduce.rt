@@ -44,7 +44,7 @@ fn cancel<F: Field, O: Order>(
 }
 
 // The memory that reducing needs: what is still to be reduced, what is done, and room for the differences. Behind a call
-// that reduces, `done` has what is left.
+// that reduces, `done` has what is left, and nothing behind a refusal.
 #[derive(Drop)]
 pub struct Work {
     pub(crate) rest: Buffer,
@@ -102,7 +102,7 @@ impl<F: Field, O: Order, D: Division> Rows<'_, F, O, D> {
                         spare,
                     ) {
                         done.clear();
-                        return Err(reason.at(k + 1));
+                        return Err(reason.at_row(k + 1));
                     }
                     std::mem::swap(rest, spare);
                 }

@@ -7,7 +7,7 @@ ghost use Rattle.reduction.specs.declared.refusal.Reason.TheVariants.{Long as To
 use crate::buffer::NoRoom;
 use polynomial::refusal::Refusal as Unfit;
 
-// Why a multiple is not made, or what is left behind its subtraction not kept.
+// Why a multiple is not made, or the difference with it not kept.
 #[derive(Clone, Copy, PartialEq, Eq, Debug)]
 pub enum Reason {
     // An exponent of the multiple is above 40.
@@ -28,7 +28,7 @@ impl Reason {
     }
 
     // The refusal of what was tried with that row.
-    pub(crate) fn at(self, row: usize) -> Denied
+    pub(crate) fn at_row(self, row: usize) -> Denied
         ensures { told result ≡ refuse (number_of self) row }
     {
         match self {

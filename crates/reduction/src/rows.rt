@@ -19,9 +19,9 @@ use polynomial::check::MOST_TERMS;
 use polynomial::ring::Ring;
 use polynomial::term::Term;
 
-// Rows that no sheet could tell from its own: each is a polynomial over the ring within the limits, with leading coefficient 1;
-// no two share a leading monomial; and what they keep beside their terms agrees with these, the ring and the division. The division
-// is here for that alone: only a new row has it asked. Rows and variables count from 1.
+// The rows of a table: each is a polynomial over the ring within the limits, with leading coefficient 1; no two share a leading
+// monomial; and what they keep beside their terms agrees with these, the ring and the division. The division is here for that
+// alone: only a new row has it asked. There may be more rows than a sheet has. Rows and variables count from 1.
 //
 // A sheet puts them together where it needs them, since a method of the sheet would lend its buffers too.
 #[derive(Drop)]
@@ -69,7 +69,8 @@ impl<F: Field, O: Order, D: Division> Rows<'_, F, O, D> {
 
     // The same, where there are such a row and variable.
     fn prolong_and_reduce(&self, row: usize, variable: usize, work: &mut Work) -> Result<(), Denied>
-        requires { Within row (length self.now.rows.now) × Within variable self.now.ring.now.variables }
+        requires row { Within row (length self.now.rows.now) }
+        requires variable { Within variable self.now.ring.now.variables }
         ensures { let S = setting (F.Field.meaning self.now.ring.now.field) (O.Order.meaning self.now.ring.now.order) (D.Division.meaning self.now.division.now) self.now.ring.now.variables in
             ProlongsAndReduces S (table_of self.now.rows.now) row variable result work.new.done.terms.items }
     {

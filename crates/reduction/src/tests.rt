@@ -31,7 +31,7 @@ fn row(
     Ok(Row { terms, lead })
 }
 
-// x1 + 2 x2 and x2^2 + 3 over the field of four elements; x1 is not multiplicative for the second.
+// x1 + 2 x2 and x2^2 + 3; x1 is not multiplicative for the second.
 fn table(heap: Global) -> Result<Vec<Row>, AllocError> {
     let all = [true, true, true, true, true, true];
     let few = [false, true, true, true, true, true];

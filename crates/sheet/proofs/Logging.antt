@@ -4,7 +4,7 @@ use Rattle.polynomial.specs.Polynomial.{Poly}
 use Rattle.involutive.specs.Sheet.{Setting, State}
 use Rattle.involutive.specs.Answers.{Adds}
 use Rattle.involutive.specs.Sound.{Sound}
-use Rattle.involutive.specs.Log.{Call, After}
+use Rattle.involutive.specs.Log.{After}
 use Rattle.involutive.specs.Log as log_of
 use Rattle.calls.specs.declared.refusal.Refusal.{Refusal}
 use Rattle.calls.specs.Told.{added}

@@ -12,8 +12,8 @@ ghost use Rattle.sheet.specs.Marks.{state_of};
 ghost use Rattle.sheet.specs.Copying.{row_room, copy_room, RowCopied, RowsCopied, Delivered};
 
 use crate::put::put;
+use crate::refusal::refusal_of;
 use crate::select::select;
-use crate::settle::refusal_of;
 use calls::answer::Copied;
 use calls::refusal::Refusal;
 use field::Field;

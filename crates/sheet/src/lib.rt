@@ -12,6 +12,7 @@
 // queue    the pairs in the order in which steps take them
 // choose   the pair that a step takes
 // append   a row more
+// refusal  what reducing refuses, as the calls tell it
 // settle   what the rows leave of a polynomial becomes a row
 // treat    what a step does with its pair
 // put      terms or bytes to the front of what was lent
@@ -29,6 +30,7 @@ mod marks;
 mod pair;
 mod put;
 mod queue;
+mod refusal;
 mod select;
 mod settle;
 pub mod sheet;

@@ -1,9 +1,7 @@
 // What the rows of a sheet leave of a polynomial becomes a row: what add and step have in common.
 ghost use Rattle.std.specs.Prelude.{◌≡◌, ◌<◌, length};
 ghost use Rattle.polynomial.specs.Polynomial.{leading};
-ghost use Rattle.calls.specs.Told.{told};
 ghost use Rattle.reduction.specs.Table.{setting, table_of};
-ghost use Rattle.reduction.specs.Reducing.{told as told_of};
 ghost use Rattle.sheet.specs.Marks.{rows_of, state_of};
 ghost use Rattle.sheet.specs.Settling.{Left, Settles, UnlessAppended};
 
@@ -15,7 +13,6 @@ use monomial::Monomial;
 use monomial::division::Division;
 use monomial::order::Order;
 use polynomial::term::Term;
-use reduction::refusal::Denied;
 
 // What became of what was left of a polynomial.
 #[derive(Clone, Copy, PartialEq, Eq, Debug)]
@@ -32,17 +29,6 @@ fn leader(f: &[Term]) -> Monomial
     ensures { result.exponents ≡ leading f.now }
 {
     f[0].monomial
-}
-
-// No `From`: each of the two types belongs to another crate.
-pub(crate) fn refusal_of(denied: Denied) -> Refusal
-    ensures { told result ≡ told_of denied }
-{
-    match denied {
-        Denied::Polynomial(unfit) => Refusal::Polynomial(unfit),
-        Denied::Wide(row) => Refusal::Wide(row),
-        Denied::Long(row) => Refusal::Long(row),
-    }
 }
 
 impl<F: Field, O: Order, D: Division> Sheet<F, O, D> {

@@ -13,7 +13,7 @@ ghost use Rattle.sheet.specs.Rows.{lead_of};
 use crate::copy::CopyBuffer;
 use crate::marks::Marks;
 use crate::queue::Queue;
-use crate::settle::refusal_of;
+use crate::refusal::refusal_of;
 use crate::table::Table;
 use calls::refusal::Refusal;
 use field::Field;

@@ -4,7 +4,7 @@ ghost use Rattle.sheet.specs.Marks.{rows_of, state_of};
 
 use crate::copy::write_fair_copy;
 use crate::put::put;
-use crate::settle::refusal_of;
+use crate::refusal::refusal_of;
 use crate::sheet::Sheet;
 use crate::unit::leads_with_one;
 use calls::answer::{Copied, Step, Verdict};

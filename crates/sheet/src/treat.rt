@@ -7,7 +7,8 @@ ghost use Rattle.sheet.specs.Marks.{rows_of, state_of};
 ghost use Rattle.sheet.specs.Queueing.{Passed, Waits};
 
 use crate::pair::Pair;
-use crate::settle::{Settled, refusal_of};
+use crate::refusal::refusal_of;
+use crate::settle::Settled;
 use crate::sheet::Sheet;
 use calls::answer::Step;
 use calls::refusal::Refusal;

@@ -23,7 +23,7 @@ reduce_within-requires-clause-acceptable g c =
     let x = c.args.self.now in
     let G = over (g.met.F.Field.laws x.ring.now.field) (g.met.O.Order.laws x.ring.now.order) x.ring.now.variables in
     let m = made _ _ c.prolong.result c.prolong.ensures (unrefused c.prolong.result c.map_err.result _ c.map_err.ensures.cases c.in_ok-map_err.field-0 c.in_ok-map_err.was) in
-    rw m.1 (acceptable G (g.D.Division.meaning x.division.now) x.rows.now x.agrees c.args.row c.args.variable c.requires.0 c.requires.1 m.0)
+    rw m.1 (acceptable G (g.D.Division.meaning x.division.now) x.rows.now x.agrees c.args.row c.args.variable c.requires.row c.requires.variable m.0)
 
 pub returns : goal.returns
 returns g c =

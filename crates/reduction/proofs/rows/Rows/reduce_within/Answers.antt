@@ -29,7 +29,7 @@ returns-in-None g c =
     let G = over (g.met.F.Field.laws x.ring.now.field) (g.met.O.Order.laws x.ring.now.order) x.ring.now.variables in
     let st = seen G D (table_of x.rows.now) c.args.room.terms c.as_slice-terms.result.now c.as_slice-terms.ensures.value c.loop.invariant in
     record {
-      comes = finished G D x.rows.now x.agrees c.args.room.terms st c.in-None.ensures c.args.room.terms refl c.extend.result (vec_items c.extend.new.self.terms) c.extend.ensures;
+      comes = finished G D x.rows.now x.agrees c.args.room.terms st c.in-None.ensures c.extend.result (vec_items c.extend.new.self.terms) c.extend.ensures;
       nothing = tt;
     }
 
@@ -42,10 +42,10 @@ returns-in-Err g c =
     let room = c.args.room.terms in
     let st = seen G D (table_of x.rows.now) room xs c.as_slice-terms.ensures.value c.loop.invariant in
     let R = stop G D x.rows.now x.agrees room st c.in-Some.i c.in-Some.k c.in-Some.ensures c.index-table-k.result c.index-table-k.is
-    room refl c.extend-in-Some.result (vec_items c.extend-in-Some.new.self.terms) c.extend-in-Some.ensures
+    c.extend-in-Some.result (vec_items c.extend-in-Some.new.self.terms) c.extend-in-Some.ensures
     c.after-free.result.terms (search rules) _ (take_rest xs (c.in-Some.i + 1)) c.cancel.result c.in-Err.reason _ c.in-Err.is c.cancel.ensures in
     record {
-      comes = subst (λ r. Reduces G.field G.order D G.variables (table_of x.rows.now) room (vec_items c.args.work.now.rest.terms) (refused r)) (sym c.at.ensures) R;
+      comes = subst (λ r. Reduces G.field G.order D G.variables (table_of x.rows.now) room (vec_items c.args.work.now.rest.terms) (refused r)) (sym c.at_row.ensures) R;
       nothing = c.clear-in-Err.ensures;
     }
 
@@ -58,5 +58,5 @@ loop-preserved g c =
     let room = c.args.room.terms in
     let st = seen G D (table_of x.rows.now) room xs c.as_slice-terms.ensures.value c.loop.invariant in
     act G D x.rows.now x.agrees room st c.in-Some.i c.in-Some.k c.in-Some.ensures c.index-table-k.result c.index-table-k.is
-    room refl c.extend-in-Some.result (vec_items c.extend-in-Some.new.self.terms) c.extend-in-Some.ensures
+    c.extend-in-Some.result (vec_items c.extend-in-Some.new.self.terms) c.extend-in-Some.ensures
     c.after-free.result.terms (search rules) _ (take_rest xs (c.in-Some.i + 1)) c.cancel.result _ (vec_items c.swap.new.x.terms) c.in_default.is (ap (λ y. vec_items y.terms) c.swap.ensures.x_after) c.cancel.ensures
