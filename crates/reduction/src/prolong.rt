@@ -5,6 +5,7 @@ ghost use Rattle.monomial.specs.Monomial.{width, variable as power};
 ghost use Rattle.polynomial.specs.Check.{Fits};
 ghost use Rattle.involutive.specs.Value.{scaled};
 ghost use Rattle.involutive.specs.Reduction.{row as line};
+ghost use Rattle.reduction.specs.declared.refusal.Reason.TheVariants.{Wide as TooWide};
 ghost use Rattle.reduction.specs.Table.{table_of};
 
 use crate::buffer::Buffer;
@@ -33,7 +34,7 @@ impl<F: Field, O: Order, D: Division> Rows<'_, F, O, D> {
     pub(crate) fn prolong(&self, k: usize, v: usize, out: &mut Buffer) -> Result<(), Reason>
         requires row { Within k (length self.now.rows.now) }
         requires variable { Within v width }
-        ensures { let h = scaled (F.Field.meaning self.now.ring.now.field) 1 (power v) (line (table_of self.now.rows.now) k) in MatchResult result (λ _. Fits h × (out.new.terms.items ≡ h)) (λ _. Fits h → ⊥) }
+        ensures { let h = scaled (F.Field.meaning self.now.ring.now.field) 1 (power v) (line (table_of self.now.rows.now) k) in MatchResult result (λ _. Fits h × (out.new.terms.items ≡ h)) (λ reason. (reason ≡ TooWide) × (Fits h → ⊥)) }
     {
         let factor = Term {
             coefficient: 1,

@@ -16,7 +16,7 @@ returns-in_err-map_err g c =
     let y : c.from_residual.result ≡ Err d = search rules in
     let z : c.from_residual.result ≡ Err (Wide c.args.row) = y ∙ ap Err is in
     let n : vec_items c.clear.new.self.terms ≡ _ = c.clear.ensures in
-    rw (z, n) (too_wide (unmade _ _ c.prolong.result c.prolong.ensures e.0 e.1))
+    rw (z, n) (too_wide (unmade _ _ c.prolong.result c.prolong.ensures e.0 e.1).1)
 
 pub reduce_within-requires-clause-acceptable : goal.reduce_within-requires-clause-acceptable
 reduce_within-requires-clause-acceptable g c =
