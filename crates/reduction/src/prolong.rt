@@ -34,7 +34,9 @@ impl<F: Field, O: Order, D: Division> Rows<'_, F, O, D> {
     pub(crate) fn prolong(&self, k: usize, v: usize, out: &mut Buffer) -> Result<(), Reason>
         requires row { Within k (length self.now.rows.now) }
         requires variable { Within v width }
-        ensures { let h = scaled (F.Field.meaning self.now.ring.now.field) 1 (power v) (line (table_of self.now.rows.now) k) in MatchResult result (λ _. Fits h × (out.new.terms.items ≡ h)) (λ reason. (reason ≡ TooWide) × (Fits h → ⊥)) }
+        ensures { let h = scaled (F.Field.meaning self.now.ring.now.field) 1 (power v) (line (table_of self.now.rows.now) k) in
+            MatchResult result (λ _. Fits h × (out.new.terms.items ≡ h))
+            (λ reason. (reason ≡ TooWide) × (Fits h → ⊥)) }
     {
         let factor = Term {
             coefficient: 1,

@@ -65,7 +65,8 @@ impl Work {
 
     // These terms are to be reduced, where they are at most 40; else nothing changes.
     pub(crate) fn load(&mut self, terms: &[Term]) -> Result<(), NoRoom>
-        ensures { MatchResult result (λ _. (length terms.now ≤ most_terms) × (self.new.rest.terms.items ≡ terms.now)) (λ _. (most_terms < length terms.now) × (self.new.rest.terms.items ≡ self.old.rest.terms.items)) }
+        ensures { MatchResult result (λ _. (length terms.now ≤ most_terms) × (self.new.rest.terms.items ≡ terms.now))
+            (λ _. (most_terms < length terms.now) × (self.new.rest.terms.items ≡ self.old.rest.terms.items)) }
     {
         self.rest.load(terms)
     }
@@ -75,9 +76,12 @@ impl<F: Field, O: Order, D: Division> Rows<'_, F, O, D> {
     // Reduces what `rest` holds into `done`, with room for so many terms. Terms without a divisor go to `done` and never
     // change again; the difference of the others is made in `spare`.
     pub(crate) fn reduce_within(&self, room: Room, work: &mut Work) -> Result<(), Denied>
-        requires acceptable { Acceptable (F.Field.meaning self.now.ring.now.field) (O.Order.meaning self.now.ring.now.order) self.now.ring.now.variables work.old.rest.terms.items }
+        requires acceptable { Acceptable (F.Field.meaning self.now.ring.now.field) (O.Order.meaning self.now.ring.now.order)
+            self.now.ring.now.variables work.old.rest.terms.items }
         requires room { length work.old.rest.terms.items ≤ room.terms }
-        ensures { Reduced (setting (F.Field.meaning self.now.ring.now.field) (O.Order.meaning self.now.ring.now.order) (D.Division.meaning self.now.division.now) self.now.ring.now.variables) (table_of self.now.rows.now) room.terms work.old.rest.terms.items result work.new.done.terms.items }
+        ensures { Reduced (setting (F.Field.meaning self.now.ring.now.field) (O.Order.meaning self.now.ring.now.order)
+            (D.Division.meaning self.now.division.now) self.now.ring.now.variables)
+            (table_of self.now.rows.now) room.terms work.old.rest.terms.items result work.new.done.terms.items }
     {
         let table = self.rows;
         let Work { rest, done, spare } = work;

@@ -31,14 +31,16 @@ pub struct Rows<'a, F: Field, O: Order, D: Division> {
     pub rows: &'a [Row],
     ghost some: { 1 ≤ ring.now.variables },
     ghost few: { ring.now.variables ≤ 6 },
-    ghost agrees: { SoundTable (setting (F.Field.meaning ring.now.field) (O.Order.meaning ring.now.order) (D.Division.meaning division.now) ring.now.variables) rows.now } by { agreement_prop _ _ },
+    ghost agrees: { SoundTable (setting (F.Field.meaning ring.now.field) (O.Order.meaning ring.now.order)
+        (D.Division.meaning division.now) ring.now.variables) rows.now } by { agreement_prop _ _ },
 }
 
 impl<F: Field, O: Order, D: Division> Rows<'_, F, O, D> {
     // Checks a polynomial and reduces it, with room for 40 terms. What is left stands in `work.done`, here and below: nothing
     // behind a refusal.
     pub fn reduce(&self, f: &[Term], work: &mut Work) -> Result<(), Denied>
-        ensures { let S = setting (F.Field.meaning self.now.ring.now.field) (O.Order.meaning self.now.ring.now.order) (D.Division.meaning self.now.division.now) self.now.ring.now.variables in
+        ensures { let S = setting (F.Field.meaning self.now.ring.now.field) (O.Order.meaning self.now.ring.now.order)
+            (D.Division.meaning self.now.division.now) self.now.ring.now.variables in
             ChecksAndReduces S (table_of self.now.rows.now) f.now result work.new.done.terms.items }
     {
         work.done.clear();
@@ -58,7 +60,8 @@ impl<F: Field, O: Order, D: Division> Rows<'_, F, O, D> {
     ) -> Option<Result<(), Denied>>
         ensures there { Decides (is_some result) (Within row (length self.now.rows.now) × Within variable self.now.ring.now.variables) }
         ensures kept { IfNone result (work.new.done.terms.items ≡ work.old.done.terms.items) }
-        ensures answer { let S = setting (F.Field.meaning self.now.ring.now.field) (O.Order.meaning self.now.ring.now.order) (D.Division.meaning self.now.division.now) self.now.ring.now.variables in
+        ensures answer { let S = setting (F.Field.meaning self.now.ring.now.field) (O.Order.meaning self.now.ring.now.order)
+            (D.Division.meaning self.now.division.now) self.now.ring.now.variables in
             IfSome result (λ answer. ProlongsAndReduces S (table_of self.now.rows.now) row variable answer work.new.done.terms.items) }
     {
         if row == 0 || row > self.rows.len() || variable == 0 || variable > self.ring.variables {
@@ -71,7 +74,8 @@ impl<F: Field, O: Order, D: Division> Rows<'_, F, O, D> {
     fn prolong_and_reduce(&self, row: usize, variable: usize, work: &mut Work) -> Result<(), Denied>
         requires row { Within row (length self.now.rows.now) }
         requires variable { Within variable self.now.ring.now.variables }
-        ensures { let S = setting (F.Field.meaning self.now.ring.now.field) (O.Order.meaning self.now.ring.now.order) (D.Division.meaning self.now.division.now) self.now.ring.now.variables in
+        ensures { let S = setting (F.Field.meaning self.now.ring.now.field) (O.Order.meaning self.now.ring.now.order)
+            (D.Division.meaning self.now.division.now) self.now.ring.now.variables in
             ProlongsAndReduces S (table_of self.now.rows.now) row variable result work.new.done.terms.items }
     {
         work.done.clear();
@@ -85,7 +89,8 @@ impl<F: Field, O: Order, D: Division> Rows<'_, F, O, D> {
     pub fn reduce_tail(&self, row: usize, work: &mut Work) -> Option<Result<(), Denied>>
         ensures there { Decides (is_some result) (Within row (length self.now.rows.now)) }
         ensures kept { IfNone result (work.new.done.terms.items ≡ work.old.done.terms.items) }
-        ensures answer { let S = setting (F.Field.meaning self.now.ring.now.field) (O.Order.meaning self.now.ring.now.order) (D.Division.meaning self.now.division.now) self.now.ring.now.variables in
+        ensures answer { let S = setting (F.Field.meaning self.now.ring.now.field) (O.Order.meaning self.now.ring.now.order)
+            (D.Division.meaning self.now.division.now) self.now.ring.now.variables in
             let T = table_of self.now.rows.now in
             IfSome result (λ answer. Reduced S T (most_terms - 1) (drop 1 (line T row)) answer work.new.done.terms.items) }
     {
@@ -100,6 +105,7 @@ impl<F: Field, O: Order, D: Division> Rows<'_, F, O, D> {
     // Reducing by these rows comes to one thing, so the clauses above allow one answer, and one polynomial that is left.
     // There is nothing to run.
     pub fn one_outcome(&self)
-        ensures { OneOutcome (setting (F.Field.meaning self.now.ring.now.field) (O.Order.meaning self.now.ring.now.order) (D.Division.meaning self.now.division.now) self.now.ring.now.variables) (table_of self.now.rows.now) }
+        ensures { OneOutcome (setting (F.Field.meaning self.now.ring.now.field) (O.Order.meaning self.now.ring.now.order)
+            (D.Division.meaning self.now.division.now) self.now.ring.now.variables) (table_of self.now.rows.now) }
     {}
 }

@@ -23,7 +23,8 @@ pub fn scale<F: Field>(
     out: &mut Buffer,
 ) -> Result<(), Reason>
     ensures all { MatchResult result (λ _. length out.new.terms.items ≡ length terms.now) (λ _. out.new.terms.items ≡ out.old.terms.items) }
-    ensures exact { Multiplies (F.Field.meaning field.now) factor.now.coefficient (exponents_of factor.now) terms.now out.old.terms.items result out.new.terms.items }
+    ensures exact { Multiplies (F.Field.meaning field.now) factor.now.coefficient (exponents_of factor.now)
+        terms.now out.old.terms.items result out.new.terms.items }
     ensures value { (n : ℕ) → Over (F.Field.meaning field.now) n terms.now → factor.now.coefficient < (F.Field.meaning field.now).q → MatchResult result (λ _. Fits (scaled (F.Field.meaning field.now) factor.now.coefficient (exponents_of factor.now) terms.now) × (out.new.terms.items ≡ scaled (F.Field.meaning field.now) factor.now.coefficient (exponents_of factor.now) terms.now)) (Unscaled terms.now (scaled (F.Field.meaning field.now) factor.now.coefficient (exponents_of factor.now) terms.now)) }
 {
     if terms.len() > MOST_TERMS {
