@@ -1,15 +1,16 @@
 // The lines that a replay writes: fields in decimal and lower-case hexadecimal, one space between them.
 #![tactic(auto)]
 
-ghost use Rattle.std.specs.Prelude.{◌≡◌, ◌++◌, Some, OnOk};
+ghost use Rattle.std.specs.Prelude.{◌≡◌, ◌<◌, ◌≤◌, ◌++◌, false, length, Some, OnOk};
+ghost use Rattle.std.specs.Fmt.{digit_glyph};
 ghost use Rattle.polynomial.specs.Bytes.{poly_bytes};
 ghost use Rattle.lines.specs.Line.{hexed, fields, more_text, line_text};
 
 use polynomial::bytes::term_bytes;
 use polynomial::term::Term;
 use std::alloc::AllocError;
-use std::fmt;
 use std::io::Write;
+use std::{fmt, str};
 
 // What a line has behind its four fields.
 #[derive(Clone, Copy, PartialEq, Eq, Debug)]
@@ -37,6 +38,32 @@ pub struct Line<'a> {
     pub more: More<'a>,
 }
 
+// How many bytes are made digits of at a time, 64 in the clauses. A `{:02x}` for each byte would take many times as long.
+const AT_ONCE: usize = 64;
+
+// A hexadecimal digit.
+fn digit(n: u8) -> u8
+    requires { n < 16 }
+    ensures { result ≡ digit_glyph false n }
+{
+    if n < 10 { b'0' + n } else { b'a' + (n - 10) }
+}
+
+// Two digits for each byte, at the front of the buffer, which has room for those of AT_ONCE bytes.
+fn digits<'a>(bytes: &[u8], buffer: &'a mut [u8; 2 * AT_ONCE]) -> &'a str
+    requires { length bytes.now ≤ 64 }
+    ensures { result.now ≡ hexed bytes.now }
+{
+    for (i, byte) in bytes.iter().enumerate() {
+        buffer[2 * i] = digit(byte / 16);
+        buffer[2 * i + 1] = digit(byte % 16);
+    }
+    let Ok(text) = str::from_utf8(&buffer[..2 * bytes.len()]) else {
+        unreachable!();
+    };
+    text
+}
+
 // Bytes, shown by two hexadecimal digits each.
 #[derive(Clone, Copy)]
 struct Hex<'a>(&'a [u8]);
@@ -45,8 +72,9 @@ impl fmt::Display for Hex<'_> {
     ghost output = { λ it. Some (hexed it.0.now) };
 
     fn fmt<W: fmt::Write>(&self, f: &mut fmt::Formatter<W>) -> fmt::Result {
-        for &byte in self.0 {
-            write!(f, "{byte:02x}")?;
+        let mut buffer = [0; 2 * AT_ONCE];
+        for bytes in self.0.chunks(AT_ONCE) {
+            f.write_str(digits(bytes, &mut buffer))?;
         }
         Ok(())
     }
@@ -60,8 +88,9 @@ impl fmt::Display for HexTerms<'_> {
     ghost output = { λ it. Some (hexed (poly_bytes it.0.now)) };
 
     fn fmt<W: fmt::Write>(&self, f: &mut fmt::Formatter<W>) -> fmt::Result {
+        let mut buffer = [0; 2 * AT_ONCE];
         for term in self.0 {
-            write!(f, "{}", Hex(&term_bytes(term)))?;
+            f.write_str(digits(&term_bytes(term), &mut buffer))?;
         }
         Ok(())
     }
@@ -92,7 +121,7 @@ impl fmt::Display for Line<'_> {
             value,
             more,
         } = *self;
-        write!(f, "{at} {byte:02x} {number} {value}{more}")
+        write!(f, "{at} {} {number} {value}{more}", Hex(&[byte]))
     }
 }
 

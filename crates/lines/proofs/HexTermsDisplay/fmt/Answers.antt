@@ -1,10 +1,14 @@
-use Rattle.std.proofs.Common.{sym, refl}
+use Rattle.std.proofs.Common.{◌++◌, take, sym, ap, ◌∙◌, rules}
 use Rattle.std.proofs.Output.{has_written_append, has_written_of_eq}
+use Rattle.polynomial.specs.Bytes.{poly_bytes}
+use Rattle.lines.specs.Line.{hexed}
 use Rattle.lines.proofs.Hexadecimal.{hexed_term_more}
 use Rattle.lines.proofs.HexTermsDisplay.fmt.Goals as goal
 
 pub loop-term-preserved : goal.loop-term-preserved
 loop-term-preserved g c = λ p.
-    let so_far = c.loop-term.invariant p in
-    let more = (rw c.term_bytes.ensures at c.in_ok-write.ensures.writes) so_far.plain refl in
-    has_written_of_eq _ _ _ _ _ (sym (hexed_term_more c.args.self.now.0.now c.loop-term.term-index c.loop-term-test.true)) (has_written_append _ _ _ _ _ _ so_far more)
+    let f = c.args.self.now.0.now in
+    let i = c.loop-term.term-index in
+    let shown = c.digits.ensures ∙ ap hexed c.term_bytes.ensures in
+    let more = ap (λ x. hexed (poly_bytes (take i f)) ++ x) shown ∙ sym (hexed_term_more f i c.loop-term-test.true) in
+    has_written_of_eq _ _ _ _ _ more (has_written_append _ _ _ _ _ _ (c.loop-term.invariant p) (search rules))
