@@ -27,10 +27,9 @@ impl Case {
     }
 
     // One line more.
-    fn take_line(&mut self, heap: Global, line: &str) -> anyhow::Result<()> {
+    fn take_line(&mut self, line: &str) -> anyhow::Result<()> {
         if let Some(text) = line.strip_prefix("in ") {
-            self.input
-                .extend_from_slice(decode(heap, text)?.as_slice())?;
+            decode(text, &mut self.input)?;
         }
         if let Some(expected) = line.strip_prefix("out ") {
             self.expected.push_str(expected)?;
@@ -51,15 +50,17 @@ impl Case {
     }
 }
 
-// The bytes that a hexadecimal text names; its letters are small.
-fn decode(heap: Global, text: &str) -> anyhow::Result<Vec<u8>> {
+// Adds the bytes that a hexadecimal text names; its letters are small. An input may be long, so it is decoded where it stays.
+fn decode(text: &str, bytes: &mut Vec<u8>) -> anyhow::Result<()> {
     if !text.bytes().all(|b| matches!(b, b'0'..=b'9' | b'a'..=b'f')) {
         return Err(anyhow!("a case has an input that is not hexadecimal"));
     }
     if text.len() % 2 == 1 {
         return Err(anyhow!("a case has half a byte"));
     }
-    Ok(hex::decode(heap, text)?)
+    let old = bytes.len();
+    bytes.resize(old + text.len() / 2, 0)?;
+    Ok(hex::decode_to_slice(text, &mut bytes[old..])?)
 }
 
 // How many cases came out as written, and how many did not.
@@ -87,11 +88,12 @@ fn run_file(rt: &HostRuntime, path: &str) -> anyhow::Result<Tally> {
     let mut current: Option<Case> = None;
     for line in text.lines() {
         if let Some(name) = line.strip_prefix("case ") {
-            if let Some(case) = current.replace(Case::new(heap, name)?) {
+            if let Some(case) = current.take() {
                 tally.count(case.run(rt)?);
             }
+            current = Some(Case::new(heap, name)?);
         } else if let Some(case) = &mut current {
-            case.take_line(heap, line)?;
+            case.take_line(line)?;
         }
     }
     if let Some(case) = current {
