@@ -83,7 +83,7 @@ unfolding Primes.listed
 three_lawful = record { field = prime_laws 3 refl; order = lexicographic_laws; division = janet_laws; variables = (omega arith, omega arith) }
 
 laws : All Laws facts
-laws = (tt, (tt, (tt, (tt, (tt, (tt, (tt, (three_lawful, (three_lawful, (tt, (three_lawful, tt)))))))))))
+laws = (tt, (tt, (tt, (tt, (tt, (tt, (tt, (three_lawful, (three_lawful, (tt, (three_lawful, (three_lawful, tt))))))))))))
 
 abbrev prove_all : (l : List Fact) → All Laws l → Option (All Holds l)
 prove_all [] w = Some tt

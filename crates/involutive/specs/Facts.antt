@@ -107,6 +107,7 @@ facts =
     ∷ ends three [] [] [] [] 0
     ∷ ends three (add unit ∷ []) (unit ∷ []) (unit ∷ []) (unit ∷ []) 1
     ∷ still_open three (steps 5 two_adds) (x1²+2 ∷ x1x2+2 ∷ [])
+    ∷ ends three (steps 6 two_adds) (x1²+2 ∷ x1x2+2 ∷ []) (x1²+2 ∷ x1x2+2 ∷ x1+2x2 ∷ x2²+2 ∷ []) (x2²+2 ∷ x1+2x2 ∷ []) 0
     ∷ ends three every_call (x1²+2 ∷ x1x2+2 ∷ []) (x1²+2 ∷ x1x2+2 ∷ x1+2x2 ∷ x2²+2 ∷ []) (x2²+2 ∷ x1+2x2 ∷ []) 0
     ∷ []
 
